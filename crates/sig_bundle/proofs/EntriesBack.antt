@@ -10,11 +10,11 @@ use Rattle.sig_bundle.specs.BundleTree.{kind_version_members}
 use Rattle.sig_bundle.specs.BundleTree.{kind_version_tree, log_id_members, log_id_tree, promise_members}
 use Rattle.sig_bundle.specs.BundleTree.{promise_record_tree}
 use Rattle.sig_bundle.specs.BundleTree.{proof_members, proof_tree}
-use Rattle.sig_bundle.specs.Written.{integer_tree, bytes_tree, list_tree, IsReadAs, OptionIsRead}
+use Rattle.sig_json.specs.Writing.{integer_tree, bytes_tree, list_tree, IsReadAs, OptionIsRead}
 use Rattle.sig_bundle.specs.declared.material.KindVersion.{KindVersion}
 use Rattle.sig_bundle.specs.declared.material.ProofFields.{ProofFields}
 use Rattle.sig_bundle.specs.declared.material.TransparencyLogEntry.{TransparencyLogEntry}
-use Rattle.sig_bundle.proofs.Found.{found, found_option}
+use Rattle.sig_bundle.proofs.FoundMembers.{found, found_option}
 use Rattle.sig_json.specs.Kinds.{bytes_of, i64_of, text_of}
 use Rattle.sig_json.specs.Member.{list_each}
 

@@ -5,7 +5,7 @@ use Rattle.sig_json.specs.Data.{Data, object, Members, no_members, put}
 use Rattle.sig_bundle.specs.BundleTree.{checkpoint_tree, entry_tree, kind_version_tree, log_id_tree}
 use Rattle.sig_bundle.specs.BundleTree.{promise_record_tree}
 use Rattle.sig_bundle.specs.BundleTree.{proof_tree}
-use Rattle.sig_bundle.specs.Written.{put_some, integer_tree, bytes_tree, list_tree}
+use Rattle.sig_json.specs.Writing.{put_some, integer_tree, bytes_tree, list_tree}
 use Rattle.sig_bundle.specs.declared.material.ProofFields.{ProofFields}
 use Rattle.sig_bundle.specs.declared.material.TransparencyLogEntry.{TransparencyLogEntry}
 

@@ -4,10 +4,7 @@ pub mod PromiseLaws
 mod ProofLaws
 pub mod EntriesBack
 pub mod EntryTrees
-pub mod Found
-pub mod Lists
+pub mod FoundMembers
 pub mod MaterialBack
-pub mod Nesting
-pub mod Objects
-pub mod Values
-pub mod Listed
+pub mod BundleDepths
+pub mod BundleMembers

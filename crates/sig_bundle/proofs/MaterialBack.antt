@@ -13,7 +13,7 @@ use Rattle.sig_bundle.specs.BundleTree.{envelope_members}
 use Rattle.sig_bundle.specs.BundleTree.{envelope_tree, material_members, material_tree, message_signature_members}
 use Rattle.sig_bundle.specs.BundleTree.{message_tree, signature_members, dsse_signature_tree, material_content_member}
 use Rattle.sig_bundle.specs.ReadBack.{MaterialContentIsRead, ContentIsRead}
-use Rattle.sig_bundle.specs.Written.{object_of, bytes_tree, list_tree, IsReadAs, OptionIsRead}
+use Rattle.sig_json.specs.Writing.{object_of, bytes_tree, list_tree, IsReadAs, OptionIsRead}
 use Rattle.sig_bundle.specs.declared.bundle.Bundle.{Bundle}
 use Rattle.sig_bundle.specs.declared.bundle.Content.{Content}
 use Rattle.sig_bundle.specs.declared.bundle.Content.TheVariants as content
@@ -24,7 +24,7 @@ use Rattle.sig_bundle.specs.declared.material.TransparencyLogEntry.{Transparency
 use Rattle.sig_bundle.specs.declared.material.VerificationMaterial.{VerificationMaterial}
 use Rattle.sig_dsse.specs.declared.envelope.DsseEnvelope.{DsseEnvelope}
 use Rattle.sig_dsse.specs.declared.envelope.DsseSignature.{DsseSignature}
-use Rattle.sig_bundle.proofs.Found.{found, found_option}
+use Rattle.sig_bundle.proofs.FoundMembers.{found, found_option}
 use Rattle.sig_bundle.proofs.EntriesBack.{text_back}
 use Rattle.sig_json.specs.Kinds.{bytes_of, text_of}
 use Rattle.sig_json.specs.Member.{list_each, optional, optional_or}

@@ -2,7 +2,7 @@
 -- is empty; only what is none is left out.
 use Rattle.std.specs.Prelude.{ℕ, List, [], ◌∷◌, codes, Option, Some, None, option_map}
 use Rattle.sig_json.specs.Data.{Data, string}
-use Rattle.sig_bundle.specs.Written.{TreeMember, object_of, integer_tree, bytes_tree, list_tree}
+use Rattle.sig_json.specs.Writing.{TreeMember, object_of, integer_tree, bytes_tree, list_tree}
 use Rattle.sig_bundle.specs.declared.bundle.Bundle.{Bundle}
 use Rattle.sig_bundle.specs.declared.bundle.Content.{Content}
 use Rattle.sig_bundle.specs.declared.bundle.Content.TheVariants as content

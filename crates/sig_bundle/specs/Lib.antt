@@ -7,4 +7,3 @@ pub mod Promise
 pub mod Proof
 pub mod BundleTree
 pub mod ReadBack
-pub mod Written

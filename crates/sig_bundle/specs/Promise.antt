@@ -5,7 +5,7 @@ use Rattle.hex.specs.Hex.{encode_lower}
 use Rattle.sig_base.specs.Base64.{base64_text}
 use Rattle.sig_json.specs.Data.{Data, string, number}
 use Rattle.sig_json.specs.Find.{of_integer}
-use Rattle.sig_bundle.specs.Written.{object_of}
+use Rattle.sig_json.specs.Writing.{object_of}
 use Rattle.sig_bundle.specs.declared.material.TransparencyLogEntry.{TransparencyLogEntry}
 
 -- the object whose canonical text it is: the body in base64 (RFC 4648 section 4), the id of the log in lower-case

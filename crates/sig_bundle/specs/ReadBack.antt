@@ -3,7 +3,7 @@ use Rattle.std.specs.Prelude.{Option, Some, None, ⊤}
 use Rattle.sig_common.specs.CommonRecord.{certificate_of, chain_of}
 use Rattle.sig_bundle.specs.BundleRecord.{envelope_of, message_signature_of}
 use Rattle.sig_bundle.specs.BundleTree.{certificate_tree, chain_tree, envelope_tree, message_tree}
-use Rattle.sig_bundle.specs.Written.{IsReadAs}
+use Rattle.sig_json.specs.Writing.{IsReadAs}
 use Rattle.sig_bundle.specs.declared.bundle.Content.{Content}
 use Rattle.sig_bundle.specs.declared.bundle.Content.TheVariants as content
 use Rattle.sig_bundle.specs.declared.material.MaterialContent.{MaterialContent}

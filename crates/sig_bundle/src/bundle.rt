@@ -27,7 +27,7 @@ pub enum Content {
 /// A signature over an artifact.
 #[derive(Drop, PartialEq, Eq)]
 pub struct MessageSignature {
-    /// The signature itself.
+    /// The signature itself, not its base64.
     pub signature: Bytes,
     /// The digest that the bundle says the artifact has.
     pub message_digest: Option<Bytes>,

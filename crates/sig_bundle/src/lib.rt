@@ -28,7 +28,6 @@ mod copy;
 pub mod laws;
 mod log_entries;
 mod material;
-mod object;
 mod promise;
 mod proof;
 mod proof_error;
@@ -40,14 +39,12 @@ mod write;
 mod write_content;
 mod write_entry;
 mod write_material;
-mod write_value;
 
 pub use bundle::{Bundle, Content, MessageSignature};
 pub use log_entries::LogEntries;
 pub use material::{
     KindVersion, MaterialContent, ProofFields, TransparencyLogEntry, VerificationMaterial,
 };
-pub use object::Object;
 pub use promise::promise_text;
 pub use proof_error::ProofFieldsError;
 pub use read::read_bundle;

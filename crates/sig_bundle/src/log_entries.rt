@@ -124,16 +124,6 @@ fn is_same(entry: &TransparencyLogEntry, other: &TransparencyLogEntry) -> bool
     *entry == *other
 }
 
-/// What is held of an entry of which that is nothing; `None` for every other entry.
-fn held_small(alloc: Global, entry: &TransparencyLogEntry) -> Option<Held>
-    ensures { IfSome result (λ held. whole held ≡ entry.now) }
-{
-    let small = SmallEntries::new(alloc);
-    let held = small.held_of(entry);
-    drop(small);
-    held
-}
-
 impl SparseEntry {
     /// The same entry. Fails only if out of memory.
     pub(crate) fn new(
@@ -165,6 +155,16 @@ impl SparseEntry {
             Held::Whole(entry) => entry.get(),
         }
     }
+}
+
+/// What is held of an entry of which that is nothing; `None` for every other entry.
+fn held_small(alloc: Global, entry: &TransparencyLogEntry) -> Option<Held>
+    ensures { IfSome result (λ held. whole held ≡ entry.now) }
+{
+    let small = SmallEntries::new(alloc);
+    let held = small.held_of(entry);
+    drop(small);
+    held
 }
 
 impl PartialEq for SparseEntry {

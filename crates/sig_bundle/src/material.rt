@@ -24,7 +24,7 @@ pub enum MaterialContent {
     PublicKey,
 }
 
-/// An entry of a transparency log.
+/// An entry of a transparency log, with the log's promise and proof. None of them is checked here.
 #[derive(Drop, PartialEq, Eq)]
 pub struct TransparencyLogEntry {
     /// The entry's index in the whole log, over all shards.
@@ -48,7 +48,7 @@ pub struct TransparencyLogEntry {
 pub struct KindVersion {
     /// The name of the kind.
     pub kind: Text,
-    /// Its version.
+    /// The version of the kind's form, such as `0.0.1`.
     pub version: Text,
 }
 

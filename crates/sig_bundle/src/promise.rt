@@ -10,10 +10,9 @@ ghost use Rattle.sig_json_text.specs.Canonical.{canonical_of};
 ghost use Rattle.sig_json.specs.Tree.{document_tree};
 
 use crate::material::TransparencyLogEntry;
-use crate::object::Object;
 use sig_base::laws::{are_optional_bytes, are_owned_bytes};
 use sig_base::{Bytes, OutOfMemory, Text};
-use sig_json::Document;
+use sig_json::{Document, Object};
 use sig_json_text::{CanonicalError, canonical};
 use std::alloc::Global;
 
@@ -32,6 +31,7 @@ pub fn promise_text(alloc: Global, entry: &TransparencyLogEntry) -> Result<Text,
     ensures answer { Answers CanonicalError.OutOfMemory (λ text. text) result
         (canonical_of (promise_tree_of entry.now)) }
 {
+    // Body and log id are bytes.
     are_owned_bytes(&entry.canonicalized_body);
     are_optional_bytes(&entry.log_id);
     write_promise(alloc, entry)
@@ -47,19 +47,15 @@ fn write_promise(alloc: Global, entry: &TransparencyLogEntry) -> Result<Text, Ca
 }
 
 /// The object of a promise. Fails only if out of memory.
-#[tactic(auto, unfolding(crate::specs::Promise::promise_tree_of, crate::specs::Written::bytes_tree))]
+#[tactic(auto, unfolding(crate::specs::Promise::promise_tree_of, sig_json::specs::Writing::bytes_tree))]
 fn promise_object(alloc: Global, entry: &TransparencyLogEntry) -> Result<Document, OutOfMemory>
     ensures { IfOk result (λ document. document_tree document ≡ promise_tree_of entry.now) }
 {
     let object = Object::new(alloc)
         .with_bytes(alloc, "body", entry.canonicalized_body.as_slice())?
-        .with(
-            alloc,
-            "integratedTime",
-            Document::of_integer(entry.integrated_time),
-        )?
+        .with_number(alloc, "integratedTime", entry.integrated_time)?
         .with_hex(alloc, "logID", id_bytes(&entry.log_id))?
-        .with(alloc, "logIndex", Document::of_integer(entry.log_index))?;
+        .with_number(alloc, "logIndex", entry.log_index)?;
     Ok(object.into_document())
 }
 

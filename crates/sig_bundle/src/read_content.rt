@@ -95,6 +95,19 @@ impl ElementReader for EnvelopeReader {
     }
 }
 
+/// The content. Fails with `Member` where both kinds are there, or a member is not of its kind.
+#[tactic(auto, unfolding(crate::specs::BundleRecord::content_of))]
+pub(crate) fn read_content(
+    alloc: Global,
+    json: Json<'_, '_>,
+) -> Result<Option<Content>, MemberError>
+    ensures { Answers MemberError.OutOfMemory (λ x. x) result (or_member (content_of (tree json.entry))) }
+{
+    let signature = optional::<MessageSignatureReader>(alloc, json, "messageSignature")?;
+    let envelope = optional::<EnvelopeReader>(alloc, json, "dsseEnvelope")?;
+    one_of(signature, envelope)
+}
+
 /// The one of both that is there. Fails with `Member` where both are.
 #[tactic(auto, unfolding(crate::specs::BundleRecord::one_content))]
 fn one_of(
@@ -109,17 +122,4 @@ fn one_of(
         (None, None) => Ok(None),
         (Some(_), Some(_)) => Err(MemberError::Member),
     }
-}
-
-/// The content. Fails with `Member` where both kinds are there, or a member is not of its kind.
-#[tactic(auto, unfolding(crate::specs::BundleRecord::content_of))]
-pub(crate) fn read_content(
-    alloc: Global,
-    json: Json<'_, '_>,
-) -> Result<Option<Content>, MemberError>
-    ensures { Answers MemberError.OutOfMemory (λ x. x) result (or_member (content_of (tree json.entry))) }
-{
-    let signature = optional::<MessageSignatureReader>(alloc, json, "messageSignature")?;
-    let envelope = optional::<EnvelopeReader>(alloc, json, "dsseEnvelope")?;
-    one_of(signature, envelope)
 }

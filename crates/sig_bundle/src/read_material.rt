@@ -30,26 +30,6 @@ impl ElementReader for KeyHintReader {
     }
 }
 
-/// Whose signature it is. Fails with `Member` where two of the three kinds are there, or a member is not of its kind.
-#[tactic(auto, unfolding(crate::specs::BundleRecord::material_content_of))]
-fn read_material_content(
-    alloc: Global,
-    json: Json<'_, '_>,
-) -> Result<Option<MaterialContent>, MemberError>
-    ensures { Answers MemberError.OutOfMemory (λ x. x) result (or_member (material_content_of (tree json.entry))) }
-{
-    let certificate = optional::<CertificateReader>(alloc, json, "certificate")?;
-    let chain = optional::<ChainReader>(alloc, json, "x509CertificateChain")?;
-    let hint = optional::<KeyHintReader>(alloc, json, "publicKey")?;
-    match (certificate, chain, hint) {
-        (Some(certificate), None, None) => Ok(Some(MaterialContent::Certificate(certificate))),
-        (None, Some(chain), None) => Ok(Some(MaterialContent::X509CertificateChain(chain))),
-        (None, None, Some(())) => Ok(Some(MaterialContent::PublicKey)),
-        (None, None, None) => Ok(None),
-        _ => Err(MemberError::Member),
-    }
-}
-
 /// Reads verification material.
 pub(crate) enum MaterialReader {}
 
@@ -67,5 +47,25 @@ impl ElementReader for MaterialReader {
                 optional_list::<SparseEntryReader>(alloc, json, "tlogEntries")?,
             ),
         })
+    }
+}
+
+/// Whose signature it is. Fails with `Member` where two of the three kinds are there, or a member is not of its kind.
+#[tactic(auto, unfolding(crate::specs::BundleRecord::material_content_of))]
+fn read_material_content(
+    alloc: Global,
+    json: Json<'_, '_>,
+) -> Result<Option<MaterialContent>, MemberError>
+    ensures { Answers MemberError.OutOfMemory (λ x. x) result (or_member (material_content_of (tree json.entry))) }
+{
+    let certificate = optional::<CertificateReader>(alloc, json, "certificate")?;
+    let chain = optional::<ChainReader>(alloc, json, "x509CertificateChain")?;
+    let hint = optional::<KeyHintReader>(alloc, json, "publicKey")?;
+    match (certificate, chain, hint) {
+        (Some(certificate), None, None) => Ok(Some(MaterialContent::Certificate(certificate))),
+        (None, Some(chain), None) => Ok(Some(MaterialContent::X509CertificateChain(chain))),
+        (None, None, Some(())) => Ok(Some(MaterialContent::PublicKey)),
+        (None, None, None) => Ok(None),
+        _ => Err(MemberError::Member),
     }
 }

@@ -6,13 +6,24 @@ ghost use Rattle.sig_bundle.specs.BundleTree.{bundle_tree};
 ghost use Rattle.sig_json.specs.Tree.{document_tree};
 
 use crate::bundle::Bundle;
-use crate::object::Object;
 use crate::write_content::with_content;
 use crate::write_material::MaterialWriter;
 use sig_base::{OutOfMemory, Text};
-use sig_json::Document;
+use sig_json::{Document, Object};
 use sig_json_text::compact;
 use std::alloc::Global;
+
+/// The text of a bundle, without white space, the members of each object in the byte order of their names. Every text,
+/// integer and bytes value is written, also where it is empty; integers are written as texts; only what is absent is
+/// left out. The text is read back as the same bundle. Fails only if out of memory.
+#[tactic(auto, using(crate::proofs::BundleDepths::nesting))]
+pub fn bundle_text(alloc: Global, bundle: &Bundle) -> Result<Text, OutOfMemory>
+    ensures text { IfOk result (λ text. text ≡ compact_text (bundle_tree bundle.now)) }
+    ensures reads_back { IfOk result (λ text. bundle_in text ≡ Ok bundle.now) }
+{
+    let document = write_bundle(alloc, bundle)?;
+    compact(alloc, document.view())
+}
 
 /// The tree of a bundle.
 #[tactic(auto, using(crate::proofs::MaterialBack::back), unfolding(crate::specs::BundleTree::bundle_tree))]
@@ -29,16 +40,4 @@ fn write_bundle(alloc: Global, bundle: &Bundle) -> Result<Document, OutOfMemory>
         )?;
     let object = with_content(object, alloc, &bundle.content)?;
     Ok(object.into_document())
-}
-
-/// The text of a bundle, without white space, the members of each object in the byte order of their names. Every text,
-/// integer and bytes value is written, also where it is empty; integers are written as texts; only what is absent is
-/// left out. The text is read back as the same bundle. Fails only if out of memory.
-#[tactic(auto, using(crate::proofs::Nesting::nesting))]
-pub fn bundle_text(alloc: Global, bundle: &Bundle) -> Result<Text, OutOfMemory>
-    ensures text { IfOk result (λ text. text ≡ compact_text (bundle_tree bundle.now)) }
-    ensures reads_back { IfOk result (λ text. bundle_in text ≡ Ok bundle.now) }
-{
-    let document = write_bundle(alloc, bundle)?;
-    compact(alloc, document.view())
 }

@@ -5,15 +5,13 @@ ghost use Rattle.sig_bundle.specs.BundleRecord.{digest_of, envelope_of, message_
 ghost use Rattle.sig_bundle.specs.BundleTree.{content_member, digest_tree, envelope_tree, message_tree};
 ghost use Rattle.sig_bundle.specs.BundleTree.{dsse_signature_tree};
 ghost use Rattle.sig_bundle.specs.ReadBack.{ContentIsRead};
-ghost use Rattle.sig_bundle.specs.Written.{IsReadAs, members, put_some};
+ghost use Rattle.sig_json.specs.Writing.{IsReadAs, members, put_some};
 ghost use Rattle.sig_json.specs.Tree.{document_tree};
 
 use crate::bundle::{Content, MessageSignature};
-use crate::object::Object;
-use crate::write_value::ElementWriter;
 use sig_base::{Bytes, OutOfMemory};
 use sig_dsse::{DsseEnvelope, DsseSignature, SparseSignature};
-use sig_json::Document;
+use sig_json::{Document, ElementWriter, Object};
 use std::alloc::Global;
 
 /// Writes the digests that signers claim.

@@ -7,15 +7,13 @@ ghost use Rattle.sig_bundle.specs.BundleRecord.{promise_of};
 ghost use Rattle.sig_bundle.specs.BundleRecord.{proof_of};
 ghost use Rattle.sig_bundle.specs.BundleTree.{checkpoint_tree, entry_tree, kind_version_tree, log_id_tree};
 ghost use Rattle.sig_bundle.specs.BundleTree.{promise_record_tree, proof_tree};
-ghost use Rattle.sig_bundle.specs.Written.{IsReadAs};
+ghost use Rattle.sig_json.specs.Writing.{IsReadAs};
 ghost use Rattle.sig_json.specs.Tree.{document_tree};
 
 use crate::log_entries::{SmallEntries, SparseEntry};
 use crate::material::{KindVersion, ProofFields, TransparencyLogEntry};
-use crate::object::Object;
-use crate::write_value::{BytesWriter, ElementWriter};
 use sig_base::{Bytes, OutOfMemory, Text};
-use sig_json::Document;
+use sig_json::{BytesWriter, Document, ElementWriter, Object};
 use std::alloc::Global;
 
 /// Writes the ids of logs.

@@ -5,15 +5,13 @@ ghost use Rattle.sig_common.specs.CommonRecord.{certificate_of, chain_of};
 ghost use Rattle.sig_bundle.specs.BundleRecord.{material_of};
 ghost use Rattle.sig_bundle.specs.BundleTree.{certificate_tree, chain_tree, material_tree, material_content_member};
 ghost use Rattle.sig_bundle.specs.ReadBack.{MaterialContentIsRead};
-ghost use Rattle.sig_bundle.specs.Written.{IsReadAs, members, put_some};
+ghost use Rattle.sig_json.specs.Writing.{IsReadAs, members, put_some};
 ghost use Rattle.sig_json.specs.Tree.{document_tree};
 
 use crate::material::{MaterialContent, VerificationMaterial};
-use crate::object::Object;
 use crate::write_entry::SparseEntryWriter;
-use crate::write_value::ElementWriter;
 use sig_base::{Bytes, Entries, OutOfMemory};
-use sig_json::Document;
+use sig_json::{Document, ElementWriter, Object};
 use std::alloc::Global;
 
 /// Writes certificates.
@@ -54,6 +52,28 @@ impl ElementWriter for ChainWriter {
     }
 }
 
+/// Writes verification material.
+pub(crate) enum MaterialWriter {}
+
+impl ElementWriter for MaterialWriter {
+    type Item = VerificationMaterial;
+
+    ghost written = { material_tree };
+
+    ghost meaning = { material_of };
+
+    #[tactic(auto, using(crate::proofs::MaterialBack::back), unfolding(crate::specs::BundleTree::material_tree))]
+    fn write(alloc: Global, item: &VerificationMaterial) -> Result<Document, OutOfMemory> {
+        let object = with_material_content(Object::new(alloc), alloc, &item.content)?;
+        let object = object.with_list::<SparseEntryWriter>(
+            alloc,
+            "tlogEntries",
+            item.tlog_entries.as_slice(),
+        )?;
+        Ok(object.into_document())
+    }
+}
+
 /// The object with the member of the content's kind. Fails only if out of memory.
 fn with_material_content(
     object: Object,
@@ -75,27 +95,5 @@ fn with_material_content(
             object.with(alloc, "publicKey", Document::object(alloc))
         }
         None => Ok(object),
-    }
-}
-
-/// Writes verification material.
-pub(crate) enum MaterialWriter {}
-
-impl ElementWriter for MaterialWriter {
-    type Item = VerificationMaterial;
-
-    ghost written = { material_tree };
-
-    ghost meaning = { material_of };
-
-    #[tactic(auto, using(crate::proofs::MaterialBack::back), unfolding(crate::specs::BundleTree::material_tree))]
-    fn write(alloc: Global, item: &VerificationMaterial) -> Result<Document, OutOfMemory> {
-        let object = with_material_content(Object::new(alloc), alloc, &item.content)?;
-        let object = object.with_list::<SparseEntryWriter>(
-            alloc,
-            "tlogEntries",
-            item.tlog_entries.as_slice(),
-        )?;
-        Ok(object.into_document())
     }
 }

@@ -7,7 +7,7 @@ use Rattle.sig_base.specs.OptionSteps.{◌>>=◌}
 use Rattle.sig_base.specs.declared.checker.AcceptedRow.{AcceptedRow}
 use Rattle.sig_base.specs.declared.checker.Operation.TheVariants.{Message}
 use Rattle.sig_base.specs.declared.scheme.SigningScheme.TheVariants.{ECDSA_P256_SHA256_ASN1}
-use Rattle.sig_bundle.specs.Written.{IsReadAs, bytes_tree, list_tree, object_of}
+use Rattle.sig_json.specs.Writing.{IsReadAs, bytes_tree, list_tree, object_of}
 use Rattle.sig_json.specs.Data.{Data, Members, no_members, number, object, put, string}
 use Rattle.sig_json.specs.Find.{of_integer}
 use Rattle.sig_json.specs.Kinds.{bytes_of, hash_of, i64_of, text_of, u64_of}

@@ -7,7 +7,7 @@ use Rattle.std.specs.Str.{trim, trim_start, trim_end, chars}
 use Rattle.sig_base.specs.declared.fault.CheckpointFault.{CheckpointFault}
 use Rattle.sig_rekor.proofs.CheckpointLaws.{checkpoint-found}
 use Rattle.sig_rekor.specs.CheckpointText.{IsCheckpoint, checkpoint_of, checkpoint_text}
-use Rattle.sig_rekor.specs.Cut.{Lacks}
+use Rattle.sig_rekor.specs.TextCuts.{Lacks}
 use Rattle.sig_rekor.specs.NoteText.{is_blank}
 use Rattle.sig_rekor.specs.ReadBack.{IsSignerName, ReadsBack}
 use Rattle.sig_rekor.specs.declared.checkpoint.SignedCheckpoint.{SignedCheckpoint}

@@ -1,7 +1,7 @@
 -- How deep the request's document nests, so that its text is read back.
 use Rattle.std.proofs.Common.{◌≡◌, ℕ, suc, max, pos, ◌+◌, ◌≤◌, List, [], ◌∷◌, Result, Ok, Err, IfOk, refl, sym, ap, subst, ◌∙◌, arith}
 use Rattle.sig_base.specs.declared.memory.OutOfMemory.{OutOfMemory}
-use Rattle.sig_bundle.specs.Written.{bytes_tree, items_of, list_tree}
+use Rattle.sig_json.specs.Writing.{bytes_tree, items_of, list_tree}
 use Rattle.sig_json.specs.Data.{Data, depth, items_depth, number, string}
 use Rattle.sig_json.specs.Find.{of_integer}
 use Rattle.sig_rekor.specs.CheckpointText.{checkpoint_text}

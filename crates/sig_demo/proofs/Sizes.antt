@@ -15,7 +15,7 @@ use Rattle.json.specs.Print.{escape, escape_byte, escape_letter, quoted}
 use Rattle.sha2.proofs.Facts256.{length-sha256}
 use Rattle.sig_base.specs.Base64.{base64_text}
 use Rattle.sig_base.specs.declared.memory.OutOfMemory.{OutOfMemory}
-use Rattle.sig_bundle.specs.Written.{bytes_tree, items_of, list_tree}
+use Rattle.sig_json.specs.Writing.{bytes_tree, items_of, list_tree}
 use Rattle.sig_json.specs.Data.{Data, Members, member, no_members, number, string}
 use Rattle.sig_json.specs.Find.{of_integer}
 use Rattle.sig_json.specs.Written.{comma_if, compact_text, items_text, members_text}

@@ -2,7 +2,7 @@
 use Rattle.std.proofs.Common.{◌≡◌, ℕ, List, length, refl}
 use Rattle.hex.proofs.HexLemmas.{decode_sized-encode_lower}
 use Rattle.hex.specs.Hex.{IsBytes}
-use Rattle.sig_bundle.specs.Written.{IsReadAs}
+use Rattle.sig_json.specs.Writing.{IsReadAs}
 use Rattle.sig_json.specs.Kinds.{hash_of}
 use Rattle.sig_demo.specs.Request.{hash_tree}
 

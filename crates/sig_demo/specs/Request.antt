@@ -4,7 +4,7 @@ use Rattle.hex.specs.Hex.{encode_lower}
 use Rattle.sig_base.specs.declared.checker.AcceptedRow.{AcceptedRow}
 use Rattle.sig_base.specs.declared.checker.Operation.TheVariants.{Message}
 use Rattle.sig_base.specs.declared.scheme.SigningScheme.TheVariants.{ECDSA_P256_SHA256_ASN1}
-use Rattle.sig_bundle.specs.Written.{bytes_tree, list_tree, object_of}
+use Rattle.sig_json.specs.Writing.{bytes_tree, list_tree, object_of}
 use Rattle.sig_json.specs.Data.{Data, number, string}
 use Rattle.sig_json.specs.Find.{of_integer}
 use Rattle.sig_rekor.specs.CheckpointText.{checkpoint_text}

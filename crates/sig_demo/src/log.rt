@@ -48,16 +48,6 @@ impl DemoLog {
     }
 }
 
-/// The entry at an index. Fails only if out of memory.
-pub(crate) fn entry_at(alloc: Global, index: u64) -> Result<Text, OutOfMemory>
-    requires { index ≤ 4096 }
-    ensures { IfOk result (λ entry. entry ≡ demo_entry index) }
-{
-    let number = FIRST_NUMBER + index;
-    let text = format!(in alloc; "L{number}")?;
-    Ok(Text::from(text))
-}
-
 /// The entries of a log of so many. Fails only if out of memory.
 #[tactic(auto, using(crate::proofs::Logs::logs))]
 fn entries_of(alloc: Global, count: u64) -> Result<Entries, OutOfMemory>
@@ -70,4 +60,14 @@ fn entries_of(alloc: Global, count: u64) -> Result<Entries, OutOfMemory>
         entries.push(entry.as_str().as_bytes())?;
     }
     Ok(entries)
+}
+
+/// The entry at an index. Fails only if out of memory.
+pub(crate) fn entry_at(alloc: Global, index: u64) -> Result<Text, OutOfMemory>
+    requires { index ≤ 4096 }
+    ensures { IfOk result (λ entry. entry ≡ demo_entry index) }
+{
+    let number = FIRST_NUMBER + index;
+    let text = format!(in alloc; "L{number}")?;
+    Ok(Text::from(text))
 }

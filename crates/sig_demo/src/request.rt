@@ -1,6 +1,6 @@
 //! The request of `log` for the middle entry of the demonstration's log.
 ghost use Rattle.std.specs.Prelude.{◌≡◌, ◌≤◌, ◌∷◌, [], IfOk, Ok, Some, length, ℕ};
-ghost use Rattle.sig_bundle.specs.Written.{IsReadAs, bytes_tree, list_tree, members};
+ghost use Rattle.sig_json.specs.Writing.{IsReadAs, bytes_tree, list_tree, members};
 ghost use Rattle.sig_json.specs.Data.{put};
 ghost use Rattle.sig_json.specs.Document.{document_of};
 ghost use Rattle.sig_json.specs.Kinds.{bytes_of, hash_of};
@@ -19,8 +19,7 @@ ghost use Rattle.sig_demo.specs.Request.{hash_tree, request_of, request_tree, ro
 use crate::log::{DemoLog, entry_at};
 use crate::written::{entries_document, hash_document, hashes_document, natural_document};
 use sig_base::{Bytes, Entries, Hashes, OutOfMemory, OwnedList, Text};
-use sig_bundle::Object;
-use sig_json::Document;
+use sig_json::{Document, Object};
 use sig_json_text::compact;
 use sig_rekor::{Checkpoint, CheckpointSignature, SignedCheckpoint};
 use std::alloc::Global;
@@ -102,6 +101,16 @@ const KEY: &[u8] = b"key";
 /// What stands for the log's signature.
 const SIGNATURE: &[u8] = b"sig";
 
+/// The text of a checkpoint that is read back. Fails only if out of memory.
+#[tactic(auto, using(crate::proofs::Checkpoints::checkpoints))]
+fn encode(alloc: Global, checkpoint: &SignedCheckpoint) -> Result<Text, OutOfMemory>
+    requires { ReadsBack checkpoint.now }
+    ensures text { IfOk result (λ text. text ≡ checkpoint_text checkpoint.now) }
+    ensures back { IfOk result (λ _. IsCheckpoint (checkpoint_text checkpoint.now) checkpoint.now) }
+{
+    checkpoint.encode(alloc)
+}
+
 /// The signature of the checkpoint. Fails only if out of memory.
 fn signature(alloc: Global) -> Result<CheckpointSignature, OutOfMemory>
     ensures { IfOk result (λ signature. signature ≡ demo_signature) }
@@ -111,16 +120,6 @@ fn signature(alloc: Global) -> Result<CheckpointSignature, OutOfMemory>
         raw: Bytes::copy_of(alloc, SIGNATURE)?,
         name: Text::copy_of(alloc, "demo")?,
     })
-}
-
-/// The text of a checkpoint that is read back. Fails only if out of memory.
-#[tactic(auto, using(crate::proofs::Checkpoints::checkpoints))]
-fn encode(alloc: Global, checkpoint: &SignedCheckpoint) -> Result<Text, OutOfMemory>
-    requires { ReadsBack checkpoint.now }
-    ensures text { IfOk result (λ text. text ≡ checkpoint_text checkpoint.now) }
-    ensures back { IfOk result (λ _. IsCheckpoint (checkpoint_text checkpoint.now) checkpoint.now) }
-{
-    checkpoint.encode(alloc)
 }
 
 /// The object with this hash as a member. Fails only if out of memory.
@@ -149,22 +148,6 @@ fn with_hashes(
     ensures back { IfOk result (λ _. IsReadAs (list_each hash_of) (list_tree hash_tree hashes.now) hashes.now) }
 {
     let value = hashes_document(alloc, hashes.as_slice())?;
-    object.with(alloc, name, value)
-}
-
-/// The object with this list of byte strings as a member. Fails only if out of memory.
-fn with_entries(
-    object: Object,
-    alloc: Global,
-    name: &str,
-    entries: &Entries,
-) -> Result<Object, OutOfMemory>
-    ensures tree { IfOk result (λ made. members made
-        ≡ put name.now (list_tree bytes_tree entries.now) (members object)) }
-    ensures back { IfOk result (λ _.
-        IsReadAs (list_each bytes_of) (list_tree bytes_tree entries.now) entries.now) }
-{
-    let value = entries_document(alloc, entries.as_slice())?;
     object.with(alloc, name, value)
 }
 
@@ -197,4 +180,20 @@ fn row_document(alloc: Global, message: &Text) -> Result<Document, OutOfMemory>
         .with_bytes(alloc, "message", message.as_str().as_bytes())?
         .with_bytes(alloc, "signature", SIGNATURE)?;
     Ok(object.into_document())
+}
+
+/// The object with this list of byte strings as a member. Fails only if out of memory.
+fn with_entries(
+    object: Object,
+    alloc: Global,
+    name: &str,
+    entries: &Entries,
+) -> Result<Object, OutOfMemory>
+    ensures tree { IfOk result (λ made. members made
+        ≡ put name.now (list_tree bytes_tree entries.now) (members object)) }
+    ensures back { IfOk result (λ _.
+        IsReadAs (list_each bytes_of) (list_tree bytes_tree entries.now) entries.now) }
+{
+    let value = entries_document(alloc, entries.as_slice())?;
+    object.with(alloc, name, value)
 }

@@ -1,6 +1,6 @@
 //! The values of the request's document.
 ghost use Rattle.std.specs.Prelude.{◌≡◌, ◌≤◌, IfOk, pos};
-ghost use Rattle.sig_bundle.specs.Written.{IsReadAs, bytes_tree, list_tree};
+ghost use Rattle.sig_json.specs.Writing.{IsReadAs, bytes_tree, list_tree};
 ghost use Rattle.sig_json.specs.Data.{number};
 ghost use Rattle.sig_json.specs.Find.{of_integer};
 ghost use Rattle.sig_json.specs.Kinds.{bytes_of, hash_of};
@@ -11,26 +11,6 @@ ghost use Rattle.sig_demo.specs.Request.{hash_tree};
 use sig_base::{Bytes, OutOfMemory, Text};
 use sig_json::Document;
 use std::alloc::Global;
-
-/// Bytes in base64. Fails only if out of memory.
-#[tactic(auto, using(sig_bundle::proofs::Values::values), unfolding(sig_bundle::specs::Written::bytes_tree))]
-fn bytes_document(alloc: Global, bytes: &Bytes) -> Result<Document, OutOfMemory>
-    ensures tree { IfOk result (λ document. document_tree document ≡ bytes_tree bytes.now) }
-    ensures back { IfOk result (λ _. IsReadAs bytes_of (bytes_tree bytes.now) bytes.now) }
-{
-    let text = Text::in_base64(alloc, bytes.as_slice())?;
-    Document::of_text(alloc, text.as_str())
-}
-
-/// A hash as lower-case hexadecimal digits. Fails only if out of memory.
-#[tactic(auto, using(crate::proofs::Values::values))]
-pub(crate) fn hash_document(alloc: Global, hash: &[u8; 32]) -> Result<Document, OutOfMemory>
-    ensures tree { IfOk result (λ document. document_tree document ≡ hash_tree hash.now) }
-    ensures back { IfOk result (λ _. IsReadAs hash_of (hash_tree hash.now) hash.now) }
-{
-    let digits = hex::encode(alloc, hash.as_slice())?;
-    Document::of_text(alloc, digits.as_str())
-}
 
 /// A small number.
 pub(crate) fn natural_document(natural: u64) -> Document
@@ -52,6 +32,16 @@ pub(crate) fn entries_document(alloc: Global, entries: &[Bytes]) -> Result<Docum
     Ok(list)
 }
 
+/// Bytes in base64. Fails only if out of memory.
+#[tactic(auto, using(sig_json::proofs::WrittenValues::values), unfolding(sig_json::specs::Writing::bytes_tree))]
+fn bytes_document(alloc: Global, bytes: &Bytes) -> Result<Document, OutOfMemory>
+    ensures tree { IfOk result (λ document. document_tree document ≡ bytes_tree bytes.now) }
+    ensures back { IfOk result (λ _. IsReadAs bytes_of (bytes_tree bytes.now) bytes.now) }
+{
+    let text = Text::in_base64(alloc, bytes.as_slice())?;
+    Document::of_text(alloc, text.as_str())
+}
+
 /// A list of hashes. Fails only if out of memory.
 pub(crate) fn hashes_document(alloc: Global, hashes: &[[u8; 32]]) -> Result<Document, OutOfMemory>
     ensures tree { IfOk result (λ document. document_tree document ≡ list_tree hash_tree hashes.now) }
@@ -62,4 +52,14 @@ pub(crate) fn hashes_document(alloc: Global, hashes: &[[u8; 32]]) -> Result<Docu
         list.push(hash_document(alloc, hash)?)?;
     }
     Ok(list)
+}
+
+/// A hash as lower-case hexadecimal digits. Fails only if out of memory.
+#[tactic(auto, using(crate::proofs::Values::values))]
+pub(crate) fn hash_document(alloc: Global, hash: &[u8; 32]) -> Result<Document, OutOfMemory>
+    ensures tree { IfOk result (λ document. document_tree document ≡ hash_tree hash.now) }
+    ensures back { IfOk result (λ _. IsReadAs hash_of (hash_tree hash.now) hash.now) }
+{
+    let digits = hex::encode(alloc, hash.as_slice())?;
+    Document::of_text(alloc, digits.as_str())
 }

@@ -12,7 +12,7 @@ use Rattle.sig_json.proofs.Lists.{items_from, none_left}
 use Rattle.sig_json.proofs.SameTrees.{items_floatless_at}
 use Rattle.sig_json.specs.List.{items_list}
 use Rattle.sig_json.specs.Member.{each, list_each}
-use Rattle.sig_json.specs.Named.{IsNamedTree, AreNamed}
+use Rattle.sig_json.specs.NamedTree.{IsNamedTree, AreNamed}
 use Rattle.sig_json.specs.SeenAs.{SeenAs}
 use Rattle.sig_json.specs.View.{view, items_view}
 use Rattle.sig_json.specs.declared.tree.Tree.{Tree}

@@ -14,12 +14,12 @@ use Rattle.serde_json.specs.Written.{has_float, members_have_float}
 use Rattle.serde_json.specs.declared.number.Number.{Number}
 use Rattle.sig_json.proofs.Only.{floatless-where, floatless-both, floatless-only, floatless-without, named-only}
 use Rattle.sig_json.proofs.Only.{named-without, only-same, without-same}
-use Rattle.sig_json.proofs.Reading.{document_of-not_utf8, document_of-unread, document_of-float, document_of-read}
+use Rattle.sig_json.proofs.DocumentSteps.{document_of-not_utf8, document_of-unread, document_of-float, document_of-read}
 use Rattle.sig_json.proofs.Tokens.{object_is_named}
 use Rattle.sig_json.proofs.Trees.{view-Null, view-Bool, view-Number, view-Text, view-Array, view-Object}
 use Rattle.sig_json.specs.Document.{document_of}
 use Rattle.sig_json.specs.Gathered.{Entry}
-use Rattle.sig_json.specs.Named.{IsNamedTree}
+use Rattle.sig_json.specs.NamedTree.{IsNamedTree}
 use Rattle.sig_json.specs.Only.{is_among, members_where, only, only_of, without}
 use Rattle.sig_json.specs.Skipped.{KeepsAllOf}
 use Rattle.sig_json.specs.View.{Words, view, members_view}

@@ -16,11 +16,11 @@ use Rattle.serde_json.specs.Data.{put}
 use Rattle.serde_json.specs.Find.{get, get_member, as_object}
 use Rattle.serde_json.specs.Written.{has_float, members_have_float}
 use Rattle.sig_base.specs.ByText.{KeysAscend}
-use Rattle.sig_json.proofs.Ordered.{same_from_tie}
+use Rattle.sig_json.proofs.OrderedMembers.{same_from_tie}
 use Rattle.sig_base.specs.OptionSteps.{◌>>=◌}
 use Rattle.sig_json.specs.Member.{member_of, not_null, there_or, required, optional_or}
 use Rattle.sig_json.specs.Members.{members_list}
-use Rattle.sig_json.specs.Named.{NamesAscend, HasNamedValues, IsNamedTree}
+use Rattle.sig_json.specs.NamedTree.{NamesAscend, HasNamedValues, IsNamedTree}
 use Rattle.sig_json.specs.Only.{is_among, members_where, object_where, only, without}
 
 abbrev compare : List ℕ → List ℕ → Ordering

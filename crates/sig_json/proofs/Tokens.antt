@@ -16,14 +16,15 @@ use Rattle.serde_json.specs.Data.{no_members, put, depth}
 use Rattle.serde_json.specs.Read.{of_json, of_items, of_members, converted, max_depth, number_of, read}
 use Rattle.serde_json.specs.View.{number_view, items_of}
 use Rattle.serde_json.specs.declared.number.Number.{Number}
-use Rattle.sig_json.proofs.Converted.{as_it_is, converted-array, converted-object, item_read, item_refused, items_over}
-use Rattle.sig_json.proofs.Converted.{member_read, member_refused, key_refused, members_over, whole_read}
-use Rattle.sig_json.proofs.Converted.{whole_and_more, whole_refused}
-use Rattle.sig_json.proofs.Named.{ascend-put, values-put}
-use Rattle.sig_json.proofs.Ordered.{in_order-none}
+use Rattle.sig_json.proofs.TokenConversions.{as_it_is, converted-array, converted-object, item_read, item_refused}
+use Rattle.sig_json.proofs.TokenConversions.{items_over}
+use Rattle.sig_json.proofs.TokenConversions.{member_read, member_refused, key_refused, members_over, whole_read}
+use Rattle.sig_json.proofs.TokenConversions.{whole_and_more, whole_refused}
+use Rattle.sig_json.proofs.NamedTrees.{ascend-put, values-put}
+use Rattle.sig_json.proofs.OrderedMembers.{in_order-none}
 use Rattle.sig_json.proofs.Trees.{view-Null, view-Bool, view-Number, view-Text, view-Array, view-Object}
 use Rattle.sig_json.specs.Gathered.{Entry, gathered, AreInOrderIfFew}
-use Rattle.sig_json.specs.Named.{IsNamedTree, AreNamed, NamesAscend, HasNamedValues}
+use Rattle.sig_json.specs.NamedTree.{IsNamedTree, AreNamed, NamesAscend, HasNamedValues}
 use Rattle.sig_json.specs.View.{Words, view, items_view, members_view}
 use Rattle.sig_json.specs.declared.tree.Tree.{Tree, Null, Bool as Truth, Number as Numeral, Text, Array, Object}
 

@@ -8,8 +8,8 @@ pub mod NumberKinds
 pub mod List
 pub mod Member
 pub mod Members
-pub mod Named
-pub mod NamedProofs
+pub mod NamedTree
+pub mod NamedTreeProofs
 pub mod Numerals
 pub mod Only
 pub mod Closed
@@ -24,6 +24,7 @@ pub mod Streamed
 pub mod Tree
 pub mod View
 pub mod Walk
+pub mod Writing
 -- the trees, the words that look into them, and what texts they are read from and written as
 pub use Rattle.serde_json.specs.Data
 pub use Rattle.serde_json.specs.Find

@@ -11,7 +11,7 @@ use Rattle.serde_json.specs.Written.{has_float, items_have_float, members_have_f
 use Rattle.sig_base.specs.ByText.{KeysAscend}
 use Rattle.sig_json.specs.Gathered.{Entry}
 use Rattle.sig_json.specs.Members.{members_list}
-use Rattle.sig_json.specs.Named.{IsNamedTree}
+use Rattle.sig_json.specs.NamedTree.{IsNamedTree}
 use Rattle.sig_json.specs.Only.{is_among, members_where}
 use Rattle.sig_json.specs.View.{Words, view}
 use Rattle.sig_json.specs.declared.skip.Rest.{Rest}

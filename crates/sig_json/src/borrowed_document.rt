@@ -2,8 +2,8 @@
 ghost use Rattle.std.specs.Prelude.{◌≡◌, false};
 ghost use Rattle.sig_json.specs.View.{view};
 ghost use Rattle.serde_json.specs.Written.{has_float};
-ghost use Rattle.sig_json.specs.Named.{IsNamedTree};
-ghost use Rattle.sig_json.specs.NamedProofs.{IsNamedTree-prop};
+ghost use Rattle.sig_json.specs.NamedTree.{IsNamedTree};
+ghost use Rattle.sig_json.specs.NamedTreeProofs.{IsNamedTree-prop};
 
 use crate::document::whole_tree;
 use crate::error::DocumentError;

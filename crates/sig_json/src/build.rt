@@ -9,7 +9,7 @@ use serde_json::Number;
 use sig_base::OutOfMemory;
 use std::alloc::Global;
 
-#[tactic(auto, using(crate::proofs::Building::building, crate::proofs::Named::named_parts))]
+#[tactic(auto, using(crate::proofs::BuilderSteps::building, crate::proofs::NamedTrees::named_parts))]
 impl Document {
     ghost use Rattle.std.specs.Prelude.{◌≡◌, IfOk, OnOk, OnErr, IsSome};
     ghost use Rattle.serde_json.specs.Data.{object, array, string, number, no_members, no_items};
@@ -74,7 +74,7 @@ impl Document {
     }
 }
 
-#[tactic(auto, using(crate::proofs::Named::named_parts))]
+#[tactic(auto, using(crate::proofs::NamedTrees::named_parts))]
 impl Json<'_, '_> {
     ghost use Rattle.std.specs.Prelude.{◌≡◌, IfOk};
     ghost use Rattle.sig_json.specs.Tree.{document_tree, tree};

@@ -1,7 +1,7 @@
 //! The changes that builders make to a tree.
 ghost use Rattle.std.specs.Prelude.{◌≡◌, OnOk, OnErr};
 ghost use Rattle.sig_json.specs.Builders.{with_member, with_last};
-ghost use Rattle.sig_json.specs.Named.{IsNamedTree};
+ghost use Rattle.sig_json.specs.NamedTree.{IsNamedTree};
 ghost use Rattle.sig_json.specs.View.{view};
 
 use crate::order::put;
@@ -11,7 +11,7 @@ use sig_base::OutOfMemory;
 use std::alloc::Global;
 
 /// Sets a member of an object; any other value stays.
-#[tactic(auto, using(crate::proofs::Building::members_set, crate::proofs::Ordered::in_trees))]
+#[tactic(auto, using(crate::proofs::BuilderSteps::members_set, crate::proofs::OrderedMembers::in_trees))]
 pub(crate) fn put_member<'t>(
     alloc: Global,
     tree: &mut Tree<'t>,
@@ -32,7 +32,7 @@ pub(crate) fn put_member<'t>(
 }
 
 /// Adds an element to a list; any other value stays.
-#[tactic(auto, using(crate::proofs::Building::elements_added))]
+#[tactic(auto, using(crate::proofs::BuilderSteps::elements_added))]
 pub(crate) fn push_last<'t>(tree: &mut Tree<'t>, element: Tree<'t>) -> Result<(), OutOfMemory>
     ensures ok { OnOk result (view tree.new ≡ with_last (view element.entry) (view tree.old)) }
     ensures err { OnErr result (view tree.new ≡ view tree.old) }

@@ -6,8 +6,8 @@ ghost use Rattle.sig_base.specs.Answers.{Answers};
 ghost use Rattle.sig_json.specs.Document.{document_of};
 ghost use Rattle.sig_json.specs.View.{view};
 ghost use Rattle.serde_json.specs.Written.{has_float};
-ghost use Rattle.sig_json.specs.Named.{IsNamedTree};
-ghost use Rattle.sig_json.specs.NamedProofs.{IsNamedTree-prop};
+ghost use Rattle.sig_json.specs.NamedTree.{IsNamedTree};
+ghost use Rattle.sig_json.specs.NamedTreeProofs.{IsNamedTree-prop};
 
 use crate::error::DocumentError;
 use crate::floats::is_float_in;
@@ -52,7 +52,7 @@ impl Document {
 }
 
 /// The tree of a text, as `Document::read` reads it.
-#[tactic(auto, using(crate::proofs::Reading::reading))]
+#[tactic(auto, using(crate::proofs::DocumentSteps::reading))]
 pub(crate) fn whole_tree<'r>(
     alloc: Global,
     text: &'r [u8],

@@ -50,7 +50,7 @@ pub fn read_list<T: ElementReader>(
 
 /// A required member of one kind. Fails with `Member` if the value is not an object, or the member is absent, null or
 /// not of the kind.
-#[tactic(auto, using(crate::proofs::Requiring::required_members))]
+#[tactic(auto, using(crate::proofs::RequiredMembers::required_members))]
 pub fn required<T: ElementReader>(
     alloc: Global,
     json: Json<'_, '_>,
@@ -81,7 +81,7 @@ pub fn optional<T: ElementReader>(
 
 /// A required list of one kind. Fails with `Member` if the value is not an object, the member is absent, null or not a
 /// list, or an element is not of the kind; a null in the list is an element as any other.
-#[tactic(auto, using(crate::proofs::Requiring::required_members))]
+#[tactic(auto, using(crate::proofs::RequiredMembers::required_members))]
 pub fn required_list<T: ElementReader>(
     alloc: Global,
     json: Json<'_, '_>,

@@ -7,23 +7,17 @@ ghost use Rattle.sig_json.specs.Tree.{tree};
 
 use crate::view::Json;
 
-/// Whether the text begins with a plus sign, which `parse` takes and no integer here has.
-fn has_plus(text: &str) -> bool
-    ensures { result ≡ (slice_index text.now 0 == 43) }
+/// The integer from 0 to 2^64 - 1 that a value is.
+#[tactic(auto, using(crate::proofs::Numerals::values), unfolding(crate::specs::Kinds::u64_of))]
+pub(crate) fn u64_of(json: Json<'_, '_>) -> Option<u64>
+    ensures { result ≡ u64_of (tree json.entry) }
 {
-    let bytes = text.as_bytes();
-    !bytes.is_empty() && bytes[0] == b'+'
-}
-
-/// The number of a text of one digit or more, where it is below 2^64.
-#[tactic(auto, using(crate::proofs::Numerals::naturals))]
-fn natural_in(text: &str) -> Option<u64>
-    ensures { result ≡ option_and_then below_word (natural_text text.now) }
-{
-    if has_plus(text) {
-        None
-    } else {
-        text.parse::<u64>().ok()
+    match json.integer() {
+        Some(number) => u64::try_from(number).ok(),
+        None => match json.text() {
+            Some(text) => unsigned_in(text),
+            None => None,
+        },
     }
 }
 
@@ -41,30 +35,24 @@ fn unsigned_in(text: &str) -> Option<u64>
     }
 }
 
-/// The number of a text, where it is from -2^63 to 2^63 - 1.
-#[tactic(auto, using(crate::proofs::Numerals::signed_texts))]
-fn signed_in(text: &str) -> Option<i64>
-    ensures { result ≡ option_and_then in_i64 (integer_text text.now) }
+/// The number of a text of one digit or more, where it is below 2^64.
+#[tactic(auto, using(crate::proofs::Numerals::naturals))]
+fn natural_in(text: &str) -> Option<u64>
+    ensures { result ≡ option_and_then below_word (natural_text text.now) }
 {
     if has_plus(text) {
         None
     } else {
-        text.parse::<i64>().ok()
+        text.parse::<u64>().ok()
     }
 }
 
-/// The integer from 0 to 2^64 - 1 that a value is.
-#[tactic(auto, using(crate::proofs::Numerals::values), unfolding(crate::specs::Kinds::u64_of))]
-pub(crate) fn u64_of(json: Json<'_, '_>) -> Option<u64>
-    ensures { result ≡ u64_of (tree json.entry) }
+/// Whether the text begins with a plus sign, which `parse` takes and no integer here has.
+fn has_plus(text: &str) -> bool
+    ensures { result ≡ (slice_index text.now 0 == 43) }
 {
-    match json.integer() {
-        Some(number) => u64::try_from(number).ok(),
-        None => match json.text() {
-            Some(text) => unsigned_in(text),
-            None => None,
-        },
-    }
+    let bytes = text.as_bytes();
+    !bytes.is_empty() && bytes[0] == b'+'
 }
 
 /// The integer from -2^63 to 2^63 - 1 that a value is.
@@ -78,5 +66,17 @@ pub(crate) fn i64_of(json: Json<'_, '_>) -> Option<i64>
             Some(text) => signed_in(text),
             None => None,
         },
+    }
+}
+
+/// The number of a text, where it is from -2^63 to 2^63 - 1.
+#[tactic(auto, using(crate::proofs::Numerals::signed_texts))]
+fn signed_in(text: &str) -> Option<i64>
+    ensures { result ≡ option_and_then in_i64 (integer_text text.now) }
+{
+    if has_plus(text) {
+        None
+    } else {
+        text.parse::<i64>().ok()
     }
 }

@@ -6,7 +6,7 @@ ghost use Rattle.serde_json.specs.Read.{read as tree_of};
 ghost use Rattle.serde_json.specs.Written.{has_float};
 ghost use Rattle.sig_base.specs.Answers.{Answers};
 ghost use Rattle.sig_json.specs.Document.{document_of};
-ghost use Rattle.sig_json.specs.Named.{IsNamedTree, NamesAscend, HasNamedValues};
+ghost use Rattle.sig_json.specs.NamedTree.{IsNamedTree, NamesAscend, HasNamedValues};
 ghost use Rattle.sig_json.specs.Only.{is_among, members_where, names_of, only, only_of};
 ghost use Rattle.sig_json.specs.Skipped.{KeepsAllOf, KeepsMembers, KeepsOf, TakesValue, value_meant};
 ghost use Rattle.sig_json.specs.Skipped.{members_meant};
@@ -143,7 +143,7 @@ fn keep_members(members: &mut Vec<Entry<'_>>, names: &[&str])
 
 /// The members of these names of a text that is an object, and whether a number that is held as a float was passed
 /// over in a member of another name. Fails with `NotJson` only if the text has no tree.
-#[tactic(auto, using(crate::proofs::Keeping::texts))]
+#[tactic(auto, using(crate::proofs::KeptMembers::texts))]
 pub(crate) fn read_kept<'r>(
     alloc: Global,
     text: &'r str,
@@ -167,7 +167,7 @@ pub(crate) fn read_kept<'r>(
 }
 
 /// The members of these names, after the opening brace.
-#[tactic(auto, using(crate::proofs::Keeping::kept))]
+#[tactic(auto, using(crate::proofs::KeptMembers::kept))]
 fn read_kept_members<'r>(
     alloc: Global,
     reader: &mut Reader<'r>,

@@ -5,7 +5,7 @@ ghost use Rattle.serde_json.specs.Find.{as_object, get};
 ghost use Rattle.serde_json.specs.Written.{has_float};
 ghost use Rattle.sig_json.specs.Builders.{with_last, with_member};
 ghost use Rattle.sig_json.specs.List.{list_of};
-ghost use Rattle.sig_json.specs.Named.{HasNames, IsNamedTree, NamesAscend};
+ghost use Rattle.sig_json.specs.NamedTree.{HasNames, IsNamedTree, NamesAscend};
 ghost use Rattle.sig_json.specs.Only.{is_among, only, without};
 ghost use Rattle.sig_json.specs.SameTree.{same_tree};
 ghost use Rattle.sig_json.specs.Tree.{document_tree, tree};

@@ -1,5 +1,5 @@
 //! JSON documents (RFC 8259) without floats: one way in, a view of the tree, readers of the members that the formats
-//! of Sigstore have.
+//! of Sigstore have, and writers of objects.
 //!
 //! The grammar of RFC 8259, as far as it has a value here, white space left out:
 //!
@@ -28,6 +28,8 @@
 //!   writes the whole tree takes it as a `Tree`, level by level.
 //! - A reader returns what the member means by its row of a table, and fails with `Member` if and only if the member
 //!   breaks that row.
+//! - An `Object`, which is written member by member, has the members that were set. What an `ElementWriter` writes is
+//!   read back by the reader that it names, and so is a list of it.
 //!
 //! `laws` says what the definitions mean.
 #![tactic(auto)]
@@ -53,6 +55,7 @@ mod members;
 mod members_and_list;
 mod number;
 mod number_kind;
+mod object;
 mod order;
 mod owned;
 mod part;
@@ -65,6 +68,7 @@ mod stream;
 mod tree;
 mod view;
 mod words;
+mod write_value;
 
 pub use any::AnyReader;
 pub use borrowed_document::BorrowedDocument;
@@ -79,7 +83,9 @@ pub use member::{
 };
 pub use members::Members;
 pub use number_kind::{I64NumberReader, U64NumberReader};
+pub use object::Object;
 pub use record::{read_record, read_record_with};
 pub use tree::{Entry, Tree};
 pub use view::Json;
 pub use words::Words;
+pub use write_value::{BytesWriter, ElementWriter};

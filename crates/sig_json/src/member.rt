@@ -15,6 +15,21 @@ use crate::view::Json;
 use sig_base::{Bytes, Text};
 use std::alloc::Global;
 
+/// An integer from -2^63 to 2^63 - 1: a whole JSON number, or a text of an optional `-` and digits; 0 if the member is
+/// absent or null. Fails with `Member` if the value is not an object or the member is not such an integer. It takes no
+/// memory.
+#[tactic(auto, unfolding(crate::specs::Member::optional_or))]
+pub fn read_i64(json: Json<'_, '_>, name: &str) -> Result<i64, MemberError>
+    ensures value { Answers MemberError.OutOfMemory (λ x. x) result
+        (or_member (optional_i64 name.now (tree json.entry))) }
+    ensures no_memory { IfErr result (λ e. e ≡ MemberError.Member) }
+{
+    match find_member(json, name)? {
+        Some(value) => i64_of(value).ok_or(MemberError::Member),
+        None => Ok(0),
+    }
+}
+
 /// The member of an object, `None` if it is absent or null. Fails with `Member` if the value is not an object.
 #[tactic(auto, unfolding(crate::specs::Member::member_of))]
 pub(crate) fn find_member<'a, 't>(
@@ -31,34 +46,6 @@ pub(crate) fn find_member<'a, 't>(
     match json.get(name) {
         Some(value) if !value.is_null() => Ok(Some(value)),
         _ => Ok(None),
-    }
-}
-
-/// The member of an object. Fails with `Member` if the value is not an object, or the member is absent or null.
-#[tactic(auto, unfolding(crate::specs::Member::required))]
-pub(crate) fn require_member<'a, 't>(
-    json: Json<'a, 't>,
-    name: &str,
-) -> Result<Json<'a, 't>, MemberError>
-    ensures value { Answers MemberError.OutOfMemory tree result
-        (or_member (required Some name.now (tree json.entry))) }
-    ensures no_memory { IfErr result (λ e. e ≡ MemberError.Member) }
-{
-    find_member(json, name)?.ok_or(MemberError::Member)
-}
-
-/// An integer from -2^63 to 2^63 - 1: a whole JSON number, or a text of an optional `-` and digits; 0 if the member is
-/// absent or null. Fails with `Member` if the value is not an object or the member is not such an integer. It takes no
-/// memory.
-#[tactic(auto, unfolding(crate::specs::Member::optional_or))]
-pub fn read_i64(json: Json<'_, '_>, name: &str) -> Result<i64, MemberError>
-    ensures value { Answers MemberError.OutOfMemory (λ x. x) result
-        (or_member (optional_i64 name.now (tree json.entry))) }
-    ensures no_memory { IfErr result (λ e. e ≡ MemberError.Member) }
-{
-    match find_member(json, name)? {
-        Some(value) => i64_of(value).ok_or(MemberError::Member),
-        None => Ok(0),
     }
 }
 
@@ -103,7 +90,7 @@ pub fn read_bytes(alloc: Global, json: Json<'_, '_>, name: &str) -> Result<Bytes
 
 /// A required integer from -2^63 to 2^63 - 1. Fails with `Member` if the value is not an object, or the member is
 /// absent, null or not such an integer. It takes no memory.
-#[tactic(auto, using(crate::proofs::Requiring::required_members))]
+#[tactic(auto, using(crate::proofs::RequiredMembers::required_members))]
 pub fn required_i64(json: Json<'_, '_>, name: &str) -> Result<i64, MemberError>
     ensures value { Answers MemberError.OutOfMemory (λ x. x) result
         (or_member (required_i64 name.now (tree json.entry))) }
@@ -112,9 +99,22 @@ pub fn required_i64(json: Json<'_, '_>, name: &str) -> Result<i64, MemberError>
     i64_of(require_member(json, name)?).ok_or(MemberError::Member)
 }
 
+/// The member of an object. Fails with `Member` if the value is not an object, or the member is absent or null.
+#[tactic(auto, unfolding(crate::specs::Member::required))]
+pub(crate) fn require_member<'a, 't>(
+    json: Json<'a, 't>,
+    name: &str,
+) -> Result<Json<'a, 't>, MemberError>
+    ensures value { Answers MemberError.OutOfMemory tree result
+        (or_member (required Some name.now (tree json.entry))) }
+    ensures no_memory { IfErr result (λ e. e ≡ MemberError.Member) }
+{
+    find_member(json, name)?.ok_or(MemberError::Member)
+}
+
 /// A required integer from 0 to 2^64 - 1. Fails with `Member` if the value is not an object, or the member is absent,
 /// null or not such an integer. It takes no memory.
-#[tactic(auto, using(crate::proofs::Requiring::required_members))]
+#[tactic(auto, using(crate::proofs::RequiredMembers::required_members))]
 pub fn required_u64(json: Json<'_, '_>, name: &str) -> Result<u64, MemberError>
     ensures value { Answers MemberError.OutOfMemory (λ x. x) result
         (or_member (required_u64 name.now (tree json.entry))) }
@@ -125,7 +125,7 @@ pub fn required_u64(json: Json<'_, '_>, name: &str) -> Result<u64, MemberError>
 
 /// A required hash: 64 hexadecimal digits in either case. Fails with `Member` if the value is not an object, or the
 /// member is absent, null or not such a text. It takes no memory.
-#[tactic(auto, using(crate::proofs::Requiring::required_members))]
+#[tactic(auto, using(crate::proofs::RequiredMembers::required_members))]
 pub fn required_hash(json: Json<'_, '_>, name: &str) -> Result<[u8; 32], MemberError>
     ensures value { Answers MemberError.OutOfMemory (λ x. x) result
         (or_member (required_hash name.now (tree json.entry))) }

@@ -2,8 +2,8 @@
 ghost use Rattle.std.specs.Prelude.{◌≡◌, false};
 ghost use Rattle.sig_json.specs.View.{members_view};
 ghost use Rattle.serde_json.specs.Written.{members_have_float};
-ghost use Rattle.sig_json.specs.Named.{HasNamedValues};
-ghost use Rattle.sig_json.specs.NamedProofs.{HasNamedValues-prop};
+ghost use Rattle.sig_json.specs.NamedTree.{HasNamedValues};
+ghost use Rattle.sig_json.specs.NamedTreeProofs.{HasNamedValues-prop};
 
 use crate::tree::Entry;
 use crate::view::Json;
@@ -26,7 +26,7 @@ impl<'a, 't> Iterator for Members<'a, 't> {
 
     ghost remaining = { item_count members_left };
 
-    #[tactic(auto, using(crate::proofs::Floatless::floatless, crate::proofs::Named::named))]
+    #[tactic(auto, using(crate::proofs::Floatless::floatless, crate::proofs::NamedTrees::named))]
     fn next(&mut self) -> Option<(&'a str, Json<'a, 't>)> {
         let (first, rest) = self.left.split_first()?;
         *self = Members { left: rest };
@@ -34,7 +34,7 @@ impl<'a, 't> Iterator for Members<'a, 't> {
     }
 }
 
-#[tactic(auto, using(crate::proofs::Floatless::floatless, crate::proofs::Named::named))]
+#[tactic(auto, using(crate::proofs::Floatless::floatless, crate::proofs::NamedTrees::named))]
 impl<'a, 't> Json<'a, 't> {
     ghost use Rattle.std.specs.Prelude.{IfSome, option_map};
     ghost use Rattle.sig_base.specs.ByText.{KeysAscend};

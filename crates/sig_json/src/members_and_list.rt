@@ -2,7 +2,7 @@
 ghost use Rattle.std.specs.Prelude.{◌≡◌, false};
 ghost use Rattle.serde_json.specs.Written.{has_float};
 ghost use Rattle.sig_base.specs.Answers.{Answers};
-ghost use Rattle.sig_json.specs.Named.{IsNamedTree};
+ghost use Rattle.sig_json.specs.NamedTree.{IsNamedTree};
 ghost use Rattle.sig_json.specs.Only.{names_of, only};
 ghost use Rattle.sig_json.specs.Record.{members_and_list, record_in};
 ghost use Rattle.sig_json.specs.Tree.{borrowed_tree, document_tree};
@@ -54,7 +54,7 @@ impl<'t> BorrowedDocument<'t> {
     ///
     /// An element is read when it comes, and no tree is made of the list. Where that finds no such elements, the whole
     /// tree is made, in the second scratch, which tells what the text is.
-    #[tactic(auto, using(crate::proofs::Streaming::streamed_read, crate::proofs::Streaming::streamed_float, crate::proofs::Tokens::object_is_named))]
+    #[tactic(auto, using(crate::proofs::StreamedLists::streamed_read, crate::proofs::StreamedLists::streamed_float, crate::proofs::Tokens::object_is_named))]
     pub fn read_members_and_list<E: ElementReader>(
         alloc: Global,
         text: &'t [u8],

@@ -26,15 +26,6 @@ fn has_minus(bytes: &[u8]) -> bool
     !bytes.is_empty() && bytes[0] == b'-'
 }
 
-fn unsigned(numeral: &Numeral<'_>) -> Option<Number>
-    ensures { option_map number_view result ≡ number_from false numeral.now }
-{
-    match numeral.to_u64() {
-        Some(integer) => Some(Number::from(integer)),
-        None => nearest(false, numeral),
-    }
-}
-
 fn negative(numeral: &Numeral<'_>) -> Option<Number>
     ensures { option_map number_view result ≡ number_from true numeral.now }
 {
@@ -48,4 +39,13 @@ fn nearest(negative: bool, numeral: &Numeral<'_>) -> Option<Number>
     ensures { option_map number_view result ≡ float_of negative numeral.now }
 {
     Number::from_f64(numeral.to_float::<f64>(negative))
+}
+
+fn unsigned(numeral: &Numeral<'_>) -> Option<Number>
+    ensures { option_map number_view result ≡ number_from false numeral.now }
+{
+    match numeral.to_u64() {
+        Some(integer) => Some(Number::from(integer)),
+        None => nearest(false, numeral),
+    }
 }

@@ -23,7 +23,7 @@ const FEW: usize = 8;
 const BY_INSERTION: usize = 32;
 
 /// The value of a name.
-#[tactic(auto, using(crate::proofs::Ordered::found))]
+#[tactic(auto, using(crate::proofs::OrderedMembers::found))]
 pub(crate) fn find<'a, 't>(members: &'a Vec<Entry<'t>>, name: &str) -> Option<&'a Tree<'t>>
     requires { InOrder members.now.items }
     ensures { option_map (λ t. view t.now) result ≡ get_member name.now (members_view members.now.items) }
@@ -38,7 +38,7 @@ pub(crate) fn find<'a, 't>(members: &'a Vec<Entry<'t>>, name: &str) -> Option<&'
 }
 
 /// The value of a name, moved out of the members.
-#[tactic(auto, using(crate::proofs::Ordered::found))]
+#[tactic(auto, using(crate::proofs::OrderedMembers::found))]
 pub(crate) fn take_member<'t>(mut members: Vec<Entry<'t>>, name: &str) -> Option<Tree<'t>>
     requires { InOrder members.items }
     ensures { option_map view result ≡ get_member name.now (members_view members.entry.items) }
@@ -50,7 +50,7 @@ pub(crate) fn take_member<'t>(mut members: Vec<Entry<'t>>, name: &str) -> Option
 }
 
 /// The value of the first member of a name.
-#[tactic(auto, using(crate::proofs::Scanned::scanned))]
+#[tactic(auto, using(crate::proofs::MemberScans::scanned))]
 fn first_of_name<'a, 't>(members: &'a [Entry<'t>], name: &str) -> Option<&'a Tree<'t>>
     ensures { option_map (λ t. view t.now) result ≡ get_member name.now (members_view members.now) }
 {
@@ -74,25 +74,8 @@ fn search(members: &Vec<Entry<'_>>, name: &str) -> Result<usize, usize>
     )
 }
 
-/// Sets the member of a name, in place of the old one or at its place among the others. Fails only if out of memory,
-/// and the members are then unchanged.
-#[tactic(auto, using(crate::proofs::Ordered::placed))]
-pub(crate) fn put<'t>(
-    members: &mut Vec<Entry<'t>>,
-    name: Words<'t>,
-    value: Tree<'t>,
-) -> Result<(), OutOfMemory>
-    requires { InOrder members.old.items }
-    ensures ok { OnOk result (members_view members.new.items
-        ≡ with_member (cow_str_bytes name.entry) (view value.entry) (members_view members.old.items)) }
-    ensures err { OnErr result (members.new.items ≡ members.old.items) }
-{
-    let place = search(members, name.as_str());
-    put_at(members, place, name, value)
-}
-
 /// The same where the name is mostly the last one, or goes after it.
-#[tactic(auto, using(crate::proofs::Ordered::placed))]
+#[tactic(auto, using(crate::proofs::OrderedMembers::placed))]
 pub(crate) fn put_behind<'t>(
     members: &mut Vec<Entry<'t>>,
     name: Words<'t>,
@@ -107,7 +90,7 @@ pub(crate) fn put_behind<'t>(
 }
 
 /// Where the member of a name is, or else where it would go: the last one is looked at first.
-#[tactic(auto, using(crate::proofs::Adding::from_last))]
+#[tactic(auto, using(crate::proofs::AddedMembers::from_last))]
 fn place_from_last(members: &Vec<Entry<'_>>, name: &str) -> Result<usize, usize>
     requires { InOrder members.now.items }
     ensures { IsPlaceOf name.now members.now.items result }
@@ -124,7 +107,7 @@ fn place_from_last(members: &Vec<Entry<'_>>, name: &str) -> Result<usize, usize>
 }
 
 /// Sets the member of a name at its place.
-#[tactic(auto, using(crate::proofs::Ordered::placed))]
+#[tactic(auto, using(crate::proofs::OrderedMembers::placed))]
 #[inline(always)]
 fn put_at<'t>(
     members: &mut Vec<Entry<'t>>,
@@ -148,7 +131,7 @@ fn put_at<'t>(
 }
 
 /// Adds a member as it was read: to its place while the members are few, and later after them, for `all_in_order`.
-#[tactic(auto, using(crate::proofs::Adding::added))]
+#[tactic(auto, using(crate::proofs::AddedMembers::added))]
 pub(crate) fn add_member<'t>(
     members: &mut Vec<Entry<'t>>,
     name: Words<'t>,
@@ -168,7 +151,7 @@ pub(crate) fn add_member<'t>(
 }
 
 /// Whether the members are few and the name does not go after them all, as it does where names ascend.
-#[tactic(auto, using(crate::proofs::Adding::behind))]
+#[tactic(auto, using(crate::proofs::AddedMembers::behind))]
 fn goes_among(members: &Vec<Entry<'_>>, name: &str) -> bool
     ensures among { IsTrue result → length members.now.items < few }
     ensures behind { result ≡ false → length members.now.items < few → InOrder members.now.items
@@ -181,8 +164,25 @@ fn goes_among(members: &Vec<Entry<'_>>, name: &str) -> bool
     !is_below(members[count - 1].0.as_str(), name)
 }
 
+/// Sets the member of a name, in place of the old one or at its place among the others. Fails only if out of memory,
+/// and the members are then unchanged.
+#[tactic(auto, using(crate::proofs::OrderedMembers::placed))]
+pub(crate) fn put<'t>(
+    members: &mut Vec<Entry<'t>>,
+    name: Words<'t>,
+    value: Tree<'t>,
+) -> Result<(), OutOfMemory>
+    requires { InOrder members.old.items }
+    ensures ok { OnOk result (members_view members.new.items
+        ≡ with_member (cow_str_bytes name.entry) (view value.entry) (members_view members.old.items)) }
+    ensures err { OnErr result (members.new.items ≡ members.old.items) }
+{
+    let place = search(members, name.as_str());
+    put_at(members, place, name, value)
+}
+
 /// The members that `add_member` was given, in the byte order of their names: of equal names the last value counts.
-#[tactic(auto, using(crate::proofs::Ordered::ordered))]
+#[tactic(auto, using(crate::proofs::OrderedMembers::ordered))]
 pub(crate) fn all_in_order<'t>(
     alloc: Global,
     members: Vec<Entry<'t>>,
@@ -198,7 +198,7 @@ pub(crate) fn all_in_order<'t>(
 
 /// Members as they were read, in the byte order of their names: of equal names the last value counts. Names that
 /// ascend already, as they mostly do, stay where they are.
-#[tactic(auto, using(crate::proofs::Ordered::ordered))]
+#[tactic(auto, using(crate::proofs::OrderedMembers::ordered))]
 pub(crate) fn in_order<'t>(
     alloc: Global,
     members: Vec<Entry<'t>>,
@@ -213,18 +213,6 @@ pub(crate) fn in_order<'t>(
     } else {
         sorted(alloc, members)
     }
-}
-
-/// The same by insertion: each member goes to its place among those before it.
-#[tactic(auto, using(crate::proofs::Ordered::ordered))]
-fn inserted<'t>(alloc: Global, members: Vec<Entry<'t>>) -> Result<Vec<Entry<'t>>, OutOfMemory>
-    ensures { IfOk result (λ ordered. members_view ordered.items ≡ gathered members.entry.items) }
-{
-    let mut ordered = Vec::with_capacity(alloc, members.len())?;
-    'members: for (name, value) in members {
-        put(&mut ordered, name, value)?;
-    }
-    Ok(ordered)
 }
 
 fn is_below(name: &str, other: &str) -> bool
@@ -242,4 +230,16 @@ fn ascends(members: &[Entry<'_>]) -> bool
             ensures { result ≡ is_lt (slice_cmp nat_cmp (cow_str_bytes member.now.0) (cow_str_bytes next.now.0)) }
         { is_below(member.0.as_str(), next.0.as_str()) },
     )
+}
+
+/// The same by insertion: each member goes to its place among those before it.
+#[tactic(auto, using(crate::proofs::OrderedMembers::ordered))]
+fn inserted<'t>(alloc: Global, members: Vec<Entry<'t>>) -> Result<Vec<Entry<'t>>, OutOfMemory>
+    ensures { IfOk result (λ ordered. members_view ordered.items ≡ gathered members.entry.items) }
+{
+    let mut ordered = Vec::with_capacity(alloc, members.len())?;
+    'members: for (name, value) in members {
+        put(&mut ordered, name, value)?;
+    }
+    Ok(ordered)
 }

@@ -28,7 +28,7 @@ pub(crate) fn own_tree(alloc: Global, tree: Tree<'_>) -> Result<Tree<'static>, O
 }
 
 #[cycle(owned)]
-#[tactic(auto, using(crate::proofs::Moved::moved_items))]
+#[tactic(auto, using(crate::proofs::MovedParts::moved_items))]
 fn own_items(alloc: Global, mut items: Vec<Tree<'_>>) -> Result<Vec<Tree<'static>>, OutOfMemory>
     ensures { IfOk result (λ v. items_view v.items ≡ items_view items.entry.items) }
 {
@@ -42,7 +42,7 @@ fn own_items(alloc: Global, mut items: Vec<Tree<'_>>) -> Result<Vec<Tree<'static
 }
 
 #[cycle(owned)]
-#[tactic(auto, using(crate::proofs::Moved::moved_members))]
+#[tactic(auto, using(crate::proofs::MovedParts::moved_members))]
 fn own_members(
     alloc: Global,
     mut members: Vec<Entry<'_>>,

@@ -3,7 +3,7 @@ ghost use Rattle.std.specs.Prelude.{◌≡◌, not, option_map};
 ghost use Rattle.std.specs.Cow.{cow_str_bytes};
 ghost use Rattle.std.specs.List.{filter};
 ghost use Rattle.serde_json.specs.Find.{get as member_in};
-ghost use Rattle.sig_json.specs.Named.{IsNamedTree};
+ghost use Rattle.sig_json.specs.NamedTree.{IsNamedTree};
 ghost use Rattle.sig_json.specs.Only.{is_among, names_of, without};
 ghost use Rattle.sig_json.specs.View.{view};
 
@@ -22,7 +22,7 @@ impl<'t> BorrowedDocument<'t> {
 
     /// The member of this name of an object; the rest is dropped. `None` if the value is not an object or has no such
     /// member. It takes no memory.
-    #[tactic(auto, using(crate::proofs::Floatless::floatless, crate::proofs::Named::named))]
+    #[tactic(auto, using(crate::proofs::Floatless::floatless, crate::proofs::NamedTrees::named))]
     pub fn into_member(self, name: &str) -> Option<BorrowedDocument<'t>>
         ensures { option_map borrowed_tree result ≡ member_in name.now (borrowed_tree self.entry) }
     {
@@ -44,7 +44,7 @@ impl<'t> BorrowedDocument<'t> {
 
     /// The document in memory of its own. What was copied of this one is dropped at once, so that both take little more
     /// memory than the greater of them. Fails only if out of memory.
-    #[tactic(auto, using(crate::proofs::Named::named_parts))]
+    #[tactic(auto, using(crate::proofs::NamedTrees::named_parts))]
     pub fn into_owned(self, alloc: Global) -> Result<Document, OutOfMemory>
         ensures { IfOk result (λ document. document_tree document ≡ borrowed_tree self.entry) }
     {
@@ -54,7 +54,7 @@ impl<'t> BorrowedDocument<'t> {
 }
 
 /// The member of a name of an object.
-#[tactic(auto, using(crate::proofs::Trees::trees, crate::proofs::Ordered::in_trees))]
+#[tactic(auto, using(crate::proofs::Trees::trees, crate::proofs::OrderedMembers::in_trees))]
 fn take_from<'t>(tree: Tree<'t>, name: &str) -> Option<Tree<'t>>
     requires { IsNamedTree (view tree) }
     ensures { option_map view result ≡ member_in name.now (view tree.entry) }

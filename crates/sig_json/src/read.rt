@@ -4,7 +4,7 @@ ghost use Rattle.json.specs.Json.{value, items, members};
 ghost use Rattle.serde_json.specs.Data.{no_members, depth as nesting};
 ghost use Rattle.serde_json.specs.Read.{of_json, of_items, of_members, converted, max_depth, read as tree_of};
 ghost use Rattle.sig_json.specs.Gathered.{gathered};
-ghost use Rattle.sig_json.specs.Named.{IsNamedTree, AreNamed, NamesAscend, HasNamedValues};
+ghost use Rattle.sig_json.specs.NamedTree.{IsNamedTree, AreNamed, NamesAscend, HasNamedValues};
 ghost use Rattle.sig_json.specs.View.{view, items_view, members_view};
 
 use crate::error::ReadError;

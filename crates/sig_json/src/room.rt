@@ -10,6 +10,15 @@ const SECOND_ROOM: usize = 8;
 /// So many elements are taken from a vector until it gives up their room: a large one does so some hundred times.
 const PIECE: usize = 65_536;
 
+/// Adds one after the others.
+pub(crate) fn add<T: Drop>(found: &mut Vec<T>, one: T) -> Result<(), OutOfMemory>
+    ensures { OnOk result (found.new.items ≡ found.old.items ++ one ∷ []) }
+{
+    make_room(found)?;
+    found.push(one)?;
+    Ok(())
+}
+
 /// Makes room for one more. The first takes room for itself alone, since most lists and objects of a large document
 /// have no other, and the second takes it for a few.
 pub(crate) fn make_room<T: Drop>(found: &mut Vec<T>) -> Result<(), OutOfMemory>
@@ -20,15 +29,6 @@ pub(crate) fn make_room<T: Drop>(found: &mut Vec<T>) -> Result<(), OutOfMemory>
         1 => Ok(found.reserve_exact(SECOND_ROOM - 1)?),
         _ => Ok(()),
     }
-}
-
-/// Adds one after the others.
-pub(crate) fn add<T: Drop>(found: &mut Vec<T>, one: T) -> Result<(), OutOfMemory>
-    ensures { OnOk result (found.new.items ≡ found.old.items ++ one ∷ []) }
-{
-    make_room(found)?;
-    found.push(one)?;
-    Ok(())
 }
 
 /// The same ones in a vector of their own size. Few move to a new one, so that the room in which they grew is whole for

@@ -45,7 +45,7 @@ pub(crate) fn skip_value(reader: &mut Reader<'_>, depth: usize) -> Result<bool, 
 }
 
 /// Passes over the first token of a value.
-#[tactic(auto, using(crate::proofs::Skipping::values))]
+#[tactic(auto, using(crate::proofs::SkippedValues::values))]
 #[inline(always)]
 fn begin_value(reader: &mut Reader<'_>) -> Result<Rest, SkipError>
     ensures ok { IfOk result (λ rest. BeginsValue rest reader.old reader.new) }
@@ -69,37 +69,6 @@ fn begin_value(reader: &mut Reader<'_>) -> Result<Rest, SkipError>
             Err(SkipError::NotJson)
         }
     }
-}
-
-/// Takes the end of an object or a list if it is next, and else of an object the name of the next member.
-#[tactic(auto, using(crate::proofs::Enclosed::ends))]
-#[inline(always)]
-fn take_end(reader: &mut Reader<'_>, of_object: bool) -> Result<bool, SkipError>
-    ensures ok { IfOk result (λ is_over. TakesEnd of_object is_over reader.old reader.new) }
-    ensures err { result ≡ Err SkipError.NotJson → (of_object ≡ true) × (read_key reader.old ≡ None) }
-    ensures over { IfOk result (λ is_over. is_over ≡ true → length reader.new < length reader.old) }
-    ensures no_longer { OnOk result (length reader.new ≤ length reader.old) }
-{
-    if of_object {
-        Ok(reader.next_key()?.is_none())
-    } else {
-        Ok(reader.take_end_array())
-    }
-}
-
-/// How many are open if one more is.
-#[inline(always)]
-fn next_level(level: usize, depth: usize) -> Result<usize, SkipError>
-    ensures ok { IfOk result (λ next. (next ≡ level + 1) × (level < depth) × (level < MOST_OPEN)) }
-    ensures err { result ≡ Err SkipError.NotJson → depth ≤ level }
-{
-    if level >= depth {
-        return Err(SkipError::NotJson);
-    }
-    if level >= MOST_OPEN {
-        return Err(SkipError::Unsure);
-    }
-    Ok(level + 1)
 }
 
 /// Passes over the rest of a list or an object, after its bracket or brace. A loop: a call for each list and object
@@ -140,6 +109,37 @@ fn skip_rest(reader: &mut Reader<'_>, depth: usize, of_object: bool) -> Result<b
     }
 }
 
+/// How many are open if one more is.
+#[inline(always)]
+fn next_level(level: usize, depth: usize) -> Result<usize, SkipError>
+    ensures ok { IfOk result (λ next. (next ≡ level + 1) × (level < depth) × (level < MOST_OPEN)) }
+    ensures err { result ≡ Err SkipError.NotJson → depth ≤ level }
+{
+    if level >= depth {
+        return Err(SkipError::NotJson);
+    }
+    if level >= MOST_OPEN {
+        return Err(SkipError::Unsure);
+    }
+    Ok(level + 1)
+}
+
+/// Takes the end of an object or a list if it is next, and else of an object the name of the next member.
+#[tactic(auto, using(crate::proofs::OpenValues::ends))]
+#[inline(always)]
+fn take_end(reader: &mut Reader<'_>, of_object: bool) -> Result<bool, SkipError>
+    ensures ok { IfOk result (λ is_over. TakesEnd of_object is_over reader.old reader.new) }
+    ensures err { result ≡ Err SkipError.NotJson → (of_object ≡ true) × (read_key reader.old ≡ None) }
+    ensures over { IfOk result (λ is_over. is_over ≡ true → length reader.new < length reader.old) }
+    ensures no_longer { OnOk result (length reader.new ≤ length reader.old) }
+{
+    if of_object {
+        Ok(reader.next_key()?.is_none())
+    } else {
+        Ok(reader.take_end_array())
+    }
+}
+
 /// Whether a number is held as a float. One of few digits is an integer by its looks, and most have one. Any other is
 /// read.
 fn is_float(text: &str) -> Result<bool, SkipError>
@@ -151,18 +151,6 @@ fn is_float(text: &str) -> Result<bool, SkipError>
         return Ok(false);
     }
     is_other_float(text)
-}
-
-#[inline(never)]
-fn is_other_float(text: &str) -> Result<bool, SkipError>
-    ensures ok { IfOk result (λ float. IsNumber float text.now) }
-    ensures err { result ≡ Err SkipError.NotJson → number_of text.now ≡ None }
-{
-    let number = number_in(text).ok_or(SkipError::NotJson)?;
-    if number.is_f64() {
-        return Ok(true);
-    }
-    Ok(false)
 }
 
 #[tactic(auto, using(crate::proofs::ShortIntegers::one_digit))]
@@ -182,4 +170,16 @@ fn are_decimal_digits(text: &[u8]) -> bool
     ensures { result ≡ list_all is_ascii_digit text.now }
 {
     text.iter().all(|letter| letter.is_ascii_digit())
+}
+
+#[inline(never)]
+fn is_other_float(text: &str) -> Result<bool, SkipError>
+    ensures ok { IfOk result (λ float. IsNumber float text.now) }
+    ensures err { result ≡ Err SkipError.NotJson → number_of text.now ≡ None }
+{
+    let number = number_in(text).ok_or(SkipError::NotJson)?;
+    if number.is_f64() {
+        return Ok(true);
+    }
+    Ok(false)
 }

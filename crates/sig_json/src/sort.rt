@@ -27,57 +27,32 @@ pub(crate) struct Key {
     pub(crate) index: usize,
 }
 
-/// A byte of a name as a digit of its rank: an absent byte is below all others.
-#[inline(always)]
-fn rank_digit(name: &[u8], index: usize) -> u64
-    ensures digit { result ≡ rank_digit name.now index }
-    ensures bound { result ≤ 256 }
+/// The members in the byte order of their names: of equal names the last value counts.
+pub(crate) fn sorted<'t>(
+    alloc: Global,
+    mut members: Vec<Entry<'t>>,
+) -> Result<Vec<Entry<'t>>, OutOfMemory>
+    ensures { IfOk result (λ ordered. members_view ordered.items ≡ gathered members.entry.items) }
 {
-    match name.get(index) {
-        Some(byte) => *byte as u64 + 1,
-        None => 0,
+    let order = order_of(alloc, members.as_slice())?;
+    let mut ordered = Vec::new(alloc);
+    'keys: for key in order.as_slice() {
+        let (name, value) = mem::replace(&mut members[key.index], (borrow(""), Tree::Null));
+        put_behind(&mut ordered, name, value)?;
     }
+    Ok(ordered)
 }
 
-/// The first seven bytes of a name as a number. Where two names differ in these, the lower one has the lower rank.
-#[tactic(auto, unfolding(crate::specs::Sorting::rank))]
-#[inline(always)]
-fn rank(name: &str) -> u64
-    ensures { result ≡ rank name.now }
+/// The keys of all members in the order of their names; members of the same name stay in their order.
+fn order_of(alloc: Global, members: &[Entry<'_>]) -> Result<Vec<Key>, OutOfMemory>
+    ensures { IfOk result (λ keys. IsOrderOf members.now keys.items) }
 {
-    let bytes = name.as_bytes();
-    let three = (rank_digit(bytes, 0) * RADIX + rank_digit(bytes, 1)) * RADIX
-        + rank_digit(bytes, 2);
-    let five = (three * RADIX + rank_digit(bytes, 3)) * RADIX + rank_digit(bytes, 4);
-    (five * RADIX + rank_digit(bytes, 5)) * RADIX + rank_digit(bytes, 6)
+    let names = names_of(alloc, members)?;
+    let mut keys = keys_of(alloc, names.as_slice())?;
+    put_in_order(names.as_slice(), &mut keys)?;
+    Ok(keys)
 }
 
-/// Compares the names at two indices. An index that no name has comes first.
-fn names_between(names: &[&str], one: usize, other: usize) -> Ordering
-    ensures { result ≡ option_cmp (slice_cmp nat_cmp)
-        (slice_get (names_of names.now) one) (slice_get (names_of names.now) other) }
-{
-    match (names.get(one), names.get(other)) {
-        (Some(one), Some(other)) => one.cmp(other),
-        (Some(_), None) => Ordering::Greater,
-        (None, Some(_)) => Ordering::Less,
-        (None, None) => Ordering::Equal,
-    }
-}
-
-/// Compares two keys: by rank, and the names are read only where these are equal.
-#[tactic(auto, using(sig_base::proofs::Orderings::steps), unfolding(crate::specs::Sorting::key_order))]
-#[inline(always)]
-fn order_between(names: &[&str], one: &Key, other: &Key) -> Ordering
-    ensures { result ≡ key_order (names_of names.now) one.now other.now }
-{
-    match one.rank.cmp(&other.rank) {
-        Ordering::Equal => names_between(names, one.index, other.index),
-        unequal => unequal,
-    }
-}
-
-/// The names of the members.
 fn names_of<'a>(alloc: Global, members: &'a [Entry<'_>]) -> Result<Vec<&'a str>, OutOfMemory>
     ensures { IfOk result (λ names. names_of names.items ≡ entry_names members.now) }
 {
@@ -103,13 +78,29 @@ fn keys_of(alloc: Global, names: &[&str]) -> Result<Vec<Key>, OutOfMemory>
     Ok(keys)
 }
 
-/// Puts keys in the order of their ranks; keys of the same rank stay in their order.
-fn put_in_rank_order(keys: &mut Vec<Key>) -> Result<(), OutOfMemory>
-    ensures moved { IsPermutation keys.old.items keys.new.items }
-    ensures stable { IsStableByKey (λ key. key.rank) nat_cmp keys.old.items keys.new.items }
+/// The first seven bytes of a name as a number. Where two names differ in these, the lower one has the lower rank.
+#[tactic(auto, unfolding(crate::specs::Sorting::rank))]
+#[inline(always)]
+fn rank(name: &str) -> u64
+    ensures { result ≡ rank name.now }
 {
-    keys.sort_by_key(|key| key.rank)?;
-    Ok(())
+    let bytes = name.as_bytes();
+    let three = (rank_digit(bytes, 0) * RADIX + rank_digit(bytes, 1)) * RADIX
+        + rank_digit(bytes, 2);
+    let five = (three * RADIX + rank_digit(bytes, 3)) * RADIX + rank_digit(bytes, 4);
+    (five * RADIX + rank_digit(bytes, 5)) * RADIX + rank_digit(bytes, 6)
+}
+
+/// A byte of a name as a digit of its rank: an absent byte is below all others.
+#[inline(always)]
+fn rank_digit(name: &[u8], index: usize) -> u64
+    ensures digit { result ≡ rank_digit name.now index }
+    ensures bound { result ≤ 256 }
+{
+    match name.get(index) {
+        Some(byte) => *byte as u64 + 1,
+        None => 0,
+    }
 }
 
 /// Puts keys in the order of their names; keys of the same name stay in their order. The ranks alone leave little to
@@ -123,28 +114,36 @@ fn put_in_order(names: &[&str], keys: &mut Vec<Key>) -> Result<(), OutOfMemory>
     Ok(())
 }
 
-/// The keys of all members in the order of their names; members of the same name stay in their order.
-fn order_of(alloc: Global, members: &[Entry<'_>]) -> Result<Vec<Key>, OutOfMemory>
-    ensures { IfOk result (λ keys. IsOrderOf members.now keys.items) }
+/// Puts keys in the order of their ranks; keys of the same rank stay in their order.
+fn put_in_rank_order(keys: &mut Vec<Key>) -> Result<(), OutOfMemory>
+    ensures moved { IsPermutation keys.old.items keys.new.items }
+    ensures stable { IsStableByKey (λ key. key.rank) nat_cmp keys.old.items keys.new.items }
 {
-    let names = names_of(alloc, members)?;
-    let mut keys = keys_of(alloc, names.as_slice())?;
-    put_in_order(names.as_slice(), &mut keys)?;
-    Ok(keys)
+    keys.sort_by_key(|key| key.rank)?;
+    Ok(())
 }
 
-/// The members in the byte order of their names: of equal names the last value counts.
-pub(crate) fn sorted<'t>(
-    alloc: Global,
-    mut members: Vec<Entry<'t>>,
-) -> Result<Vec<Entry<'t>>, OutOfMemory>
-    ensures { IfOk result (λ ordered. members_view ordered.items ≡ gathered members.entry.items) }
+/// Compares two keys: by rank, and the names are read only where these are equal.
+#[tactic(auto, using(sig_base::proofs::Orderings::steps), unfolding(crate::specs::Sorting::key_order))]
+#[inline(always)]
+fn order_between(names: &[&str], one: &Key, other: &Key) -> Ordering
+    ensures { result ≡ key_order (names_of names.now) one.now other.now }
 {
-    let order = order_of(alloc, members.as_slice())?;
-    let mut ordered = Vec::new(alloc);
-    'keys: for key in order.as_slice() {
-        let (name, value) = mem::replace(&mut members[key.index], (borrow(""), Tree::Null));
-        put_behind(&mut ordered, name, value)?;
+    match one.rank.cmp(&other.rank) {
+        Ordering::Equal => names_between(names, one.index, other.index),
+        unequal => unequal,
     }
-    Ok(ordered)
+}
+
+/// Compares the names at two indices. An index that no name has comes first.
+fn names_between(names: &[&str], one: usize, other: usize) -> Ordering
+    ensures { result ≡ option_cmp (slice_cmp nat_cmp)
+        (slice_get (names_of names.now) one) (slice_get (names_of names.now) other) }
+{
+    match (names.get(one), names.get(other)) {
+        (Some(one), Some(other)) => one.cmp(other),
+        (Some(_), None) => Ordering::Greater,
+        (None, Some(_)) => Ordering::Less,
+        (None, None) => Ordering::Equal,
+    }
 }

@@ -2,7 +2,7 @@
 ghost use Rattle.std.specs.Prelude.{◌≡◌, ◌<◌, Some, false, length, map, IfOk, OnOk};
 ghost use Rattle.serde_json.specs.Written.{has_float};
 ghost use Rattle.sig_json.specs.Member.{list_each};
-ghost use Rattle.sig_json.specs.Named.{IsNamedTree, NamesAscend, HasNamedValues};
+ghost use Rattle.sig_json.specs.NamedTree.{IsNamedTree, NamesAscend, HasNamedValues};
 ghost use Rattle.sig_json.specs.Only.{is_among, names_of};
 ghost use Rattle.sig_json.specs.Streamed.{StreamsValue, StreamsItems, StreamsMembers, StreamsOf};
 ghost use Rattle.sig_json.specs.View.{view, members_view};
@@ -21,7 +21,7 @@ use std::alloc::Global;
 
 /// The members of these names of a text that is an object, and the elements of the list of the name `list`. It says
 /// nothing of a text that it fails for, unless memory ran out: the whole tree tells.
-#[tactic(auto, using(crate::proofs::Streaming::text_streamed))]
+#[tactic(auto, using(crate::proofs::StreamedLists::text_streamed))]
 pub(crate) fn stream_text<'r, E: ElementReader>(
     alloc: Global,
     text: &'r str,
@@ -48,7 +48,7 @@ pub(crate) fn stream_text<'r, E: ElementReader>(
 
 /// The same after the opening brace. Of two lists of that name the last counts. Fails with `Unsure` at a number that is
 /// held as a float in a member of another name: a later member of that name may replace it.
-#[tactic(auto, using(crate::proofs::Streaming::parts))]
+#[tactic(auto, using(crate::proofs::StreamedLists::parts))]
 fn stream_members<'r, E: ElementReader>(
     alloc: Global,
     reader: &mut Reader<'r>,
@@ -79,7 +79,7 @@ fn stream_members<'r, E: ElementReader>(
 }
 
 /// The next value, which has to be a list.
-#[tactic(auto, using(crate::proofs::Streaming::list_streamed))]
+#[tactic(auto, using(crate::proofs::StreamedLists::list_streamed))]
 fn stream_list<E: ElementReader>(
     alloc: Global,
     reader: &mut Reader<'_>,
@@ -99,7 +99,7 @@ fn stream_list<E: ElementReader>(
 }
 
 /// The elements of a list, after its opening bracket.
-#[tactic(auto, using(crate::proofs::Streaming::items))]
+#[tactic(auto, using(crate::proofs::StreamedLists::items))]
 fn stream_items<E: ElementReader>(
     alloc: Global,
     reader: &mut Reader<'_>,
@@ -118,7 +118,7 @@ fn stream_items<E: ElementReader>(
 }
 
 /// The next value as an element of the list. Its tree is dropped at once.
-#[tactic(auto, using(crate::proofs::Streaming::element_streamed))]
+#[tactic(auto, using(crate::proofs::StreamedLists::element_streamed))]
 fn stream_element<E: ElementReader>(
     alloc: Global,
     reader: &mut Reader<'_>,

@@ -4,7 +4,7 @@ ghost use Rattle.std.specs.Prelude.{◌≡◌, is_some, option_map};
 ghost use Rattle.serde_json.specs.Find.{as_null, as_bool, as_number, as_str, as_array, as_object, get as member_in};
 ghost use Rattle.serde_json.specs.Find.{get_item, at};
 ghost use Rattle.serde_json.specs.View.{number_view};
-ghost use Rattle.sig_json.specs.Named.{IsNamedTree};
+ghost use Rattle.sig_json.specs.NamedTree.{IsNamedTree};
 ghost use Rattle.sig_json.specs.View.{view, items_view, members_view};
 
 use crate::order::find;
@@ -27,7 +27,7 @@ pub enum Tree<'t> {
     Object(Vec<Entry<'t>>),
 }
 
-#[tactic(auto, using(crate::proofs::Trees::trees, crate::proofs::Ordered::in_trees))]
+#[tactic(auto, using(crate::proofs::Trees::trees, crate::proofs::OrderedMembers::in_trees))]
 impl<'t> Tree<'t> {
     pub(crate) fn is_null(&self) -> bool
         ensures { result ≡ is_some (as_null (view self.now)) }

@@ -2,8 +2,8 @@
 ghost use Rattle.std.specs.Prelude.{◌≡◌, false};
 ghost use Rattle.sig_json.specs.View.{view};
 ghost use Rattle.serde_json.specs.Written.{has_float};
-ghost use Rattle.sig_json.specs.Named.{IsNamedTree};
-ghost use Rattle.sig_json.specs.NamedProofs.{IsNamedTree-prop};
+ghost use Rattle.sig_json.specs.NamedTree.{IsNamedTree};
+ghost use Rattle.sig_json.specs.NamedTreeProofs.{IsNamedTree-prop};
 
 use crate::tree::Tree;
 
@@ -16,7 +16,7 @@ pub struct Json<'a, 't> {
     ghost named: { IsNamedTree (view value.now) } by { IsNamedTree-prop (view value.now) },
 }
 
-#[tactic(auto, using(crate::proofs::Floatless::floatless, crate::proofs::Named::named, crate::proofs::Lists::lengths))]
+#[tactic(auto, using(crate::proofs::Floatless::floatless, crate::proofs::NamedTrees::named, crate::proofs::Lists::lengths))]
 impl<'a, 't> Json<'a, 't> {
     ghost use Rattle.std.specs.Prelude.{◌↔◌, IsSome, is_some, option_map, option_and_then, length};
     ghost use Rattle.serde_json.specs.Find.{get as member_in, at, as_null, as_bool, as_str, as_number, as_integer};
@@ -49,7 +49,7 @@ impl<'a, 't> Json<'a, 't> {
         self.value.is_null()
     }
 
-    /// A text.
+    /// The characters of a text, without quotes and escapes.
     pub fn text(self) -> Option<&'a str>
         ensures { option_map (λ text. text.now) result ≡ as_str (tree self.entry) }
     {
@@ -67,7 +67,7 @@ impl<'a, 't> Json<'a, 't> {
         }
     }
 
-    /// A truth value.
+    /// Whether a truth value is `true`.
     pub fn boolean(self) -> Option<bool>
         ensures { result ≡ as_bool (tree self.entry) }
     {

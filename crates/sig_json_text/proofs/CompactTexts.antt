@@ -29,16 +29,16 @@ use Rattle.serde_json.specs.Find.{as_u64, as_i64, is_float}
 use Rattle.serde_json.specs.Read.{of_json, of_items, of_members, converted, max_depth}
 use Rattle.serde_json.specs.Written.{compact_text, outline, items_outline, members_outline, has_float}
 use Rattle.sig_base.specs.ByText.{KeysAscend}
-use Rattle.sig_json.proofs.Converted.{whole_read}
+use Rattle.sig_json.proofs.TokenConversions.{whole_read}
 use Rattle.sig_json.proofs.Lists.{items_from, members_from, none_left}
-use Rattle.sig_json.proofs.Reading.{document_of-read}
+use Rattle.sig_json.proofs.DocumentSteps.{document_of-read}
 use Rattle.sig_json.proofs.SameTrees.{as_u64_is, as_i64_is, items_floatless_at, members_floatless_at, items_depth_at}
 use Rattle.sig_json.proofs.SameTrees.{members_depth_at}
 use Rattle.sig_json.proofs.Trees.{view-Null, view-Bool, view-Number, view-Text, view-Array, view-Object}
 use Rattle.sig_json.specs.Document.{document_of}
 use Rattle.sig_json.specs.Gathered.{Entry}
 use Rattle.sig_json.specs.Members.{members_list}
-use Rattle.sig_json.specs.Named.{IsNamedTree, AreNamed, HasNamedValues}
+use Rattle.sig_json.specs.NamedTree.{IsNamedTree, AreNamed, HasNamedValues}
 use Rattle.sig_json_text.specs.Range.{InRange, AreInRange, HasValuesInRange}
 use Rattle.sig_json.specs.View.{view, items_view, members_view}
 use Rattle.sig_json.specs.declared.tree.Tree.{Tree}

@@ -5,8 +5,8 @@ use Rattle.std.proofs.lemmas.Iterator.Adapters.{option_map_id}
 use Rattle.sig_base.proofs.OptionSteps.{bind_is, some_is}
 use Rattle.serde_json.specs.Data.{Data, null, boolean, number, string, array, object, Items, no_items, item}
 use Rattle.serde_json.specs.Data.{Members, no_members, member}
-use Rattle.sig_json.proofs.Named.{names_differ}
-use Rattle.sig_json.specs.Named.{IsNamedTree, AreNamed, HasNamedValues}
+use Rattle.sig_json.proofs.NamedTrees.{names_differ}
+use Rattle.sig_json.specs.NamedTree.{IsNamedTree, AreNamed, HasNamedValues}
 use Rattle.sig_json_text.proofs.MemberOrder.{object_exact}
 use Rattle.sig_json_text.specs.Canonical.{Sorted, canon, canon_items, in_brackets}
 use Rattle.sig_json_text.specs.Order.{KeepsOrder, InTurn, ValuesKeepOrder, member_texts}

@@ -20,11 +20,11 @@ use Rattle.std.specs.Str.{IsUtf8}
 use Rattle.std.specs.declared.cmp.Ordering.{Ordering}
 use Rattle.std.specs.declared.cmp.Ordering.TheVariants.{Less, Equal, Greater}
 use Rattle.serde_json.specs.Data.{Data, Members, no_members, member, object}
-use Rattle.sig_base.proofs.Ascending.{all_keys, ascend-insert_entry}
+use Rattle.sig_base.proofs.AscendingKeys.{all_keys, ascend-insert_entry}
 use Rattle.sig_base.proofs.OptionSteps.{bind_is, bind_of_some, some_is}
 use Rattle.sig_json_text.specs.Canonical.{Sorted, canon, canon_string, canon_members, in_braces, with_text, utf16_units}
 use Rattle.sig_json.specs.Members.{members_list}
-use Rattle.sig_json.specs.Named.{HasNames}
+use Rattle.sig_json.specs.NamedTree.{HasNames}
 use Rattle.sig_json_text.specs.Order.{member_texts, UnitsAscend, IsSorting}
 use Rattle.sig_json_text.proofs.Units.{units_distinct}
 

@@ -15,7 +15,7 @@ use Rattle.std.specs.Str.{IsUtf8}
 use Rattle.std.specs.declared.cmp.Ordering.{Ordering}
 use Rattle.std.specs.declared.cmp.Ordering.TheVariants.{Less, Equal, Greater}
 use Rattle.serde_json.specs.Data.{Data, Members, no_members, member, depth, members_depth}
-use Rattle.sig_json.specs.Named.{HasNames, IsNamedTree, AreNamed, NamesAscend, HasNamedValues}
+use Rattle.sig_json.specs.NamedTree.{HasNames, IsNamedTree, AreNamed, NamesAscend, HasNamedValues}
 use Rattle.sig_json.specs.View.{Words, view, items_view, members_view}
 use Rattle.sig_json.specs.declared.tree.Tree.{Tree, Array, Object}
 use Rattle.sig_json.proofs.Trees.{view-Array, view-Object}
@@ -24,7 +24,7 @@ use Rattle.sig_json_text.specs.Canonical.{with_text}
 use Rattle.sig_json.specs.Members.{members_list}
 use Rattle.sig_json_text.specs.Writes.{comma_before, Pair, ByUnits, by_units, member_text, pair_of, texts_in_turn}
 use Rattle.sig_json_text.specs.declared.named_member.Member.{Member}
-use Rattle.sig_base.proofs.Ascending.{all_keys}
+use Rattle.sig_base.proofs.AscendingKeys.{all_keys}
 use Rattle.sig_json.proofs.ByOrdering.{choice_of_each}
 use Rattle.sig_json_text.proofs.MemberOrder.{same_units}
 use Rattle.sig_json.proofs.Elements.{items_named_at}

@@ -10,7 +10,7 @@ ghost use Rattle.sig_json.specs.View.{view, items_view, members_view};
 ghost use Rattle.sig_json_text.specs.Canonical.{canon, canon_integer, canon_string, canon_items, canon_members};
 ghost use Rattle.sig_json_text.specs.Canonical.{canonical_of, in_braces, in_brackets, utf16_units};
 ghost use Rattle.sig_json_text.specs.Large.{has_large};
-ghost use Rattle.sig_json.specs.Named.{IsNamedTree, AreNamed, NamesAscend, HasNamedValues};
+ghost use Rattle.sig_json.specs.NamedTree.{IsNamedTree, AreNamed, NamesAscend, HasNamedValues};
 ghost use Rattle.sig_json_text.specs.Order.{KeepsOrder};
 ghost use Rattle.sig_json.specs.Tree.{tree};
 ghost use Rattle.sig_json_text.specs.Writes.{WritesPart, comma_before, by_units, member_text, pair_of, texts_in_turn};
@@ -109,17 +109,6 @@ fn quoted_text(alloc: Global, text: &str) -> Result<String, OutOfMemory>
     Ok(value.to_string(alloc)?)
 }
 
-/// The comma before a part of a list or an object, none before the first.
-fn write_comma(out: &mut String, place: usize) -> Result<(), CanonicalError>
-    ensures written { OnOk result (string_bytes out.new ≡ string_bytes out.old ++ comma_before place) }
-    ensures memory { IfErr result (λ e. e ≡ CanonicalError.OutOfMemory) }
-{
-    if place == 0 {
-        return Ok(());
-    }
-    write_text(out, ",")
-}
-
 #[cycle(canon)]
 #[tactic(auto, using(crate::proofs::MemberTexts::parts))]
 fn write_list(alloc: Global, items: &Vec<Tree<'_>>, out: &mut String) -> Result<(), CanonicalError>
@@ -133,6 +122,17 @@ fn write_list(alloc: Global, items: &Vec<Tree<'_>>, out: &mut String) -> Result<
         write_value(alloc, item, out)?;
     }
     write_text(out, "]")
+}
+
+/// The comma before a part of a list or an object, none before the first.
+fn write_comma(out: &mut String, place: usize) -> Result<(), CanonicalError>
+    ensures written { OnOk result (string_bytes out.new ≡ string_bytes out.old ++ comma_before place) }
+    ensures memory { IfErr result (λ e. e ≡ CanonicalError.OutOfMemory) }
+{
+    if place == 0 {
+        return Ok(());
+    }
+    write_text(out, ",")
 }
 
 #[cycle(canon)]
@@ -149,6 +149,38 @@ fn write_object(
 {
     let sorted = sorted_members(alloc, members)?;
     write_members(alloc, &sorted, out)
+}
+
+/// The members in the ascending order of the UTF-16 code units of their names.
+#[tactic(auto, using(crate::proofs::MemberTexts::sorts))]
+fn sorted_members<'a, 't>(
+    alloc: Global,
+    members: &'a Vec<Entry<'t>>,
+) -> Result<Vec<Member<'a, 't>>, OutOfMemory>
+    requires { HasNamedValues (members_view members.now.items) }
+    ensures { IfOk result (λ sorted.
+        map pair_of sorted.items ≡ values_of (by_units (members_view members.now.items) [])) }
+{
+    let mut sorted = BTreeMap::new(alloc);
+    'members: for member in members {
+        let name = member.0.as_str();
+        let units = utf16_units(alloc, name)?;
+        let value = &member.1;
+        sorted.insert(units, Member { name, value })?;
+    }
+    Ok(sorted.into_values().collect(alloc)?)
+}
+
+/// The UTF-16 code units of a text.
+fn utf16_units(alloc: Global, text: &str) -> Result<Vec<u16>, OutOfMemory>
+    ensures { IfOk result (λ units. units.items ≡ utf16_units text.now) }
+{
+    let mut units = Vec::new(alloc);
+    'units: for c in text.chars() {
+        let mut buffer = [0; 2];
+        units.extend_from_slice(c.encode_utf16(&mut buffer))?;
+    }
+    Ok(units)
 }
 
 /// Writes members, sorted already, in braces.
@@ -182,38 +214,6 @@ fn write_member(
     write_quoted(alloc, member.name, out)?;
     write_text(out, ":")?;
     write_value(alloc, member.value, out)
-}
-
-/// The members in the ascending order of the UTF-16 code units of their names.
-#[tactic(auto, using(crate::proofs::MemberTexts::sorts))]
-fn sorted_members<'a, 't>(
-    alloc: Global,
-    members: &'a Vec<Entry<'t>>,
-) -> Result<Vec<Member<'a, 't>>, OutOfMemory>
-    requires { HasNamedValues (members_view members.now.items) }
-    ensures { IfOk result (λ sorted.
-        map pair_of sorted.items ≡ values_of (by_units (members_view members.now.items) [])) }
-{
-    let mut sorted = BTreeMap::new(alloc);
-    'members: for member in members {
-        let name = member.0.as_str();
-        let units = utf16_units(alloc, name)?;
-        let value = &member.1;
-        sorted.insert(units, Member { name, value })?;
-    }
-    Ok(sorted.into_values().collect(alloc)?)
-}
-
-/// The UTF-16 code units of a text.
-fn utf16_units(alloc: Global, text: &str) -> Result<Vec<u16>, OutOfMemory>
-    ensures { IfOk result (λ units. units.items ≡ utf16_units text.now) }
-{
-    let mut units = Vec::new(alloc);
-    'units: for c in text.chars() {
-        let mut buffer = [0; 2];
-        units.extend_from_slice(c.encode_utf16(&mut buffer))?;
-    }
-    Ok(units)
 }
 
 /// A text in quotation marks, with the escapes of canonical JSON (RFC 8785 section 3.2.2.2). Fails only if memory runs

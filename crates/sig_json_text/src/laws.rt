@@ -5,7 +5,7 @@ ghost use Rattle.std.specs.Map.{values_of};
 ghost use Rattle.std.specs.Str.{IsUtf8};
 ghost use Rattle.serde_json.specs.Data.{Data, Members, object};
 ghost use Rattle.serde_json.specs.Written.{has_float};
-ghost use Rattle.sig_json.specs.Named.{HasNames};
+ghost use Rattle.sig_json.specs.NamedTree.{HasNames};
 ghost use Rattle.sig_json_text.specs.Canonical.{Sorted, canon, canon_members, in_braces, utf16_units};
 ghost use Rattle.sig_json_text.specs.Large.{has_large};
 ghost use Rattle.sig_json_text.specs.Order.{UnitsAscend, IsSorting};

@@ -1,6 +1,6 @@
 //! `Member`: a member of an object, borrowed, while an object is sorted.
-ghost use Rattle.sig_json.specs.Named.{IsNamedTree};
-ghost use Rattle.sig_json.specs.NamedProofs.{IsNamedTree-prop};
+ghost use Rattle.sig_json.specs.NamedTree.{IsNamedTree};
+ghost use Rattle.sig_json.specs.NamedTreeProofs.{IsNamedTree-prop};
 ghost use Rattle.sig_json.specs.View.{view};
 
 use sig_json::Tree;

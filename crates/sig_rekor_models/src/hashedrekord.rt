@@ -5,12 +5,10 @@
 //!   "data":{"hash":{"algorithm":"sha256","value":"47c1db9fb5fe7ff66e3d7c15b2ca5d3a046ee8f4aa043dedd317e46b321c4390"}},
 //!   "signature":{"content":"MEYCIQDT..","publicKey":{"content":"LS0tLS1CRUdJTi.."}}}}
 //! ```
-use crate::entry_object::{
-    entry_object, object_of_one, object_of_text, object_of_texts, object_of_two,
-};
+use crate::entry_object::entry_object;
 use crate::public_key::PublicKey;
 use sig_base::{OutOfMemory, Result, Text};
-use sig_json::Document;
+use sig_json::{Document, Object};
 use std::alloc::Global;
 
 /// An entry of kind `hashedrekord`: a signature over the hash of an artifact.
@@ -27,7 +25,7 @@ pub struct Hashedrekord {
 /// What an entry of kind `hashedrekord` says.
 #[derive(Drop, PartialEq, Eq)]
 pub struct Spec {
-    /// The signature.
+    /// The signature, with the key that verifies it.
     pub signature: Signature,
     /// What it is over.
     pub logged_data: Data,
@@ -38,7 +36,7 @@ pub struct Spec {
 pub struct Signature {
     /// The signature in base64.
     pub content: Text,
-    /// The key.
+    /// The key that verifies it, or the certificate of that key.
     pub public_key: PublicKey,
 }
 
@@ -49,7 +47,7 @@ pub struct Data {
     pub hash: Hash,
 }
 
-/// A hash.
+/// The hash of an artifact, with its algorithm.
 #[derive(Drop, PartialEq, Eq)]
 pub struct Hash {
     /// How it is computed.
@@ -115,9 +113,10 @@ impl Spec {
     pub(crate) fn json(&self, alloc: Global) -> std::result::Result<Document, OutOfMemory>
         ensures { IfOk result (λ document. document_tree document ≡ spec_json self.now) }
     {
-        let data = self.logged_data.json(alloc)?;
-        let signature = self.signature.json(alloc)?;
-        object_of_two(alloc, "data", data, "signature", signature)
+        let object = Object::new(alloc)
+            .with(alloc, "data", self.logged_data.json(alloc)?)?
+            .with(alloc, "signature", self.signature.json(alloc)?)?;
+        Ok(object.into_document())
     }
 }
 
@@ -141,9 +140,11 @@ impl Signature {
     fn json(&self, alloc: Global) -> std::result::Result<Document, OutOfMemory>
         ensures { IfOk result (λ document. document_tree document ≡ signature_json self.now) }
     {
-        let content = Document::of_text(alloc, self.content.as_str())?;
-        let public_key = object_of_text(alloc, "content", self.public_key.content())?;
-        object_of_two(alloc, "content", content, "publicKey", public_key)
+        let public_key = Object::new(alloc).with_text(alloc, "content", self.public_key.content())?;
+        let object = Object::new(alloc)
+            .with_text(alloc, "content", self.content.as_str())?
+            .with(alloc, "publicKey", public_key.into_document())?;
+        Ok(object.into_document())
     }
 }
 
@@ -164,7 +165,8 @@ impl Data {
     fn json(&self, alloc: Global) -> std::result::Result<Document, OutOfMemory>
         ensures { IfOk result (λ document. document_tree document ≡ data_json self.now) }
     {
-        object_of_one(alloc, "hash", self.hash.json(alloc)?)
+        let object = Object::new(alloc).with(alloc, "hash", self.hash.json(alloc)?)?;
+        Ok(object.into_document())
     }
 }
 
@@ -185,13 +187,10 @@ impl Hash {
     fn json(&self, alloc: Global) -> std::result::Result<Document, OutOfMemory>
         ensures { IfOk result (λ document. document_tree document ≡ hash_json self.now) }
     {
-        object_of_texts(
-            alloc,
-            "algorithm",
-            self.algorithm.name(),
-            "value",
-            self.value.as_str(),
-        )
+        let object = Object::new(alloc)
+            .with_text(alloc, "algorithm", self.algorithm.name())?
+            .with_text(alloc, "value", self.value.as_str())?;
+        Ok(object.into_document())
     }
 }
 

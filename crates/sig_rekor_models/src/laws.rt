@@ -17,7 +17,7 @@ ghost use Rattle.sig_rekor_models.specs.Refusals.{IsConsistencyFault, IsConsiste
 ghost use Rattle.sig_rekor_models.specs.Refusals.{IsHeadOf, IsKeyFault, IsKeyText};
 ghost use Rattle.sig_rekor_models.specs.declared.consistency_proof.ConsistencyProof.{ConsistencyProof as Proof};
 ghost use Rattle.sig_rekor_models.specs.declared.consistency_proof.RekorConsistencyProof.{RekorConsistencyProof as ApiProof};
-ghost use Rattle.sig_rekor_models.specs.declared.log_info.LogInfo.{LogInfo as Head};
+ghost use Rattle.sig_rekor_models.specs.declared.log_info.LogInfo.{LogInfo};
 ghost use Rattle.sig_rekor_models.specs.declared.log_info.RekorLogInfo.{RekorLogInfo as ApiHead};
 
 use crate::body::{Body, BodyContent};
@@ -208,13 +208,13 @@ pub fn entry_refusals()
 /// A tree head of Rekor's API is taken for a head if and only if it is that head, and has a fault if and only if it is
 /// its root's. It has no code.
 pub fn api_heads()
-    ensures head { (raw : ApiHead) (head : Head) → (log_info_from_rekor raw ≡ Ok head) ↔ IsHeadOf raw head }
+    ensures head { (raw : ApiHead) (head : LogInfo) → (log_info_from_rekor raw ≡ Ok head) ↔ IsHeadOf raw head }
     ensures fault { (raw : ApiHead) (error : SigstoreError) →
         (log_info_from_rekor raw ≡ Err error) ↔ IsHashFault RootLength raw.root_hash error }
 {}
 
 /// A consistency proof of Rekor's API is taken for a proof if and only if it is that proof. Each fault comes if and
-/// only if it is the root's, or the root is a hash and it is that of the first text that is none. It has no code.
+/// only if it is the root's, or the root is a hash and it is that of the first text that is not one. It has no code.
 pub fn api_consistency_proofs()
     ensures proof { (raw : ApiProof) (proof : Proof) →
         (consistency_proof_from_rekor raw ≡ Ok proof) ↔ IsConsistencyOf raw proof }
@@ -226,7 +226,7 @@ pub fn api_consistency_proofs()
 /// of the head's signatures is accepted over its note; the note is of the head's own tree; and those of RFC 6962 section
 /// 2.1.2, between the older tree and that one. It has no code.
 pub fn growth_refusals()
-    ensures { (accepts : List ℕ → List ℕ → Bool) (head : Head) (old_size : ℕ) (old_root : List ℕ) (proof : Proof)
+    ensures { (accepts : List ℕ → List ℕ → Bool) (head : LogInfo) (old_size : ℕ) (old_root : List ℕ) (proof : Proof)
         (error : SigstoreError) →
         (head_answer accepts head old_size old_root proof ≡ Err error)
         ↔ IsGrowthRefusal accepts head old_size old_root proof error }

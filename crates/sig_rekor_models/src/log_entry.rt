@@ -3,7 +3,7 @@ use crate::body::Body;
 use sig_base::Text;
 use sig_rekor::RekorInclusionProof;
 
-/// An entry of a log.
+/// An entry as Rekor's API returns it, with what the log says of it.
 #[derive(Drop, PartialEq, Eq)]
 pub struct LogEntry {
     /// The entry's identifier.

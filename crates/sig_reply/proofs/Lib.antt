@@ -1,4 +1,4 @@
-pub mod Fitting
+pub mod FittingLists
 pub mod Listings
 pub mod RowsTexts
 pub mod SchemeTexts

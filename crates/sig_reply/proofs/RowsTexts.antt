@@ -10,10 +10,10 @@ use Rattle.sig_base.specs.declared.checker.Operation.{Operation}
 use Rattle.sig_base.specs.declared.checker.Operation.TheVariants.{Message, Prehash, Point, Certificate}
 use Rattle.sig_base.specs.declared.scheme.VerifyScheme.{VerifyScheme}
 use Rattle.sig_base.specs.declared.scheme.VerifyScheme.TheVariants as verify
-use Rattle.sig_bundle.proofs.Lists.{list_back-append, list_back-none, list_more, list_tree-append}
-use Rattle.sig_bundle.specs.Written.{IsReadAs, bytes_tree, items_of, put_some}
-use Rattle.sig_json.specs.Builders.{with_last, with_member}
-use Rattle.sig_json.specs.Data.{Data, Members, depth, items_depth, no_members, object, string}
+use Rattle.sig_json.proofs.WrittenLists.{list_back-append, list_back-none, list_more, list_tree-append}
+use Rattle.sig_json.specs.Writing.{IsReadAs, bytes_tree, items_of}
+use Rattle.sig_json.specs.Builders.{with_last}
+use Rattle.sig_json.specs.Data.{Data, depth, items_depth, string}
 use Rattle.sig_json.specs.Document.{document_of}
 use Rattle.sig_json.specs.Kinds.{bytes_of, text_of}
 use Rattle.sig_json.specs.Member.{list_each, member_of, required, optional, optional_or}
@@ -22,25 +22,7 @@ use Rattle.sig_json.specs.Written.{compact_text, items_text}
 use Rattle.sig_request.specs.Row.{no_kind, operation_kind, row_of, scheme_for, scheme_kind}
 use Rattle.sig_reply.specs.RowsText.{AddsRow, FitsBeside, IsDocumentOf, IsListOf, IsRowReadBack, IsSchemeRead, room_beside}
 use Rattle.sig_reply.specs.RowsText.{row_tree, rows_size, rows_text}
-use Rattle.sig_reply.specs.RowsText.{operation_word, rows_tree, scheme_tree, with_some}
-
--- ---- the object of a signature
-
-with_some-object : (name : List ℕ) (value : Option Data) (ms : Members)
-    → with_some name value (object ms) ≡ object (put_some name value ms)
-with_some-object name None ms = refl
-with_some-object name (Some d) ms = refl
-
-pub row_written : (row : AcceptedRow) (start one two three four whole : Data) (word : List ℕ)
-    → word ≡ operation_word row.operation
-    → start ≡ object no_members → one ≡ with_member (codes "operation") (string word) start
-    → two ≡ with_some (codes "scheme") (scheme_tree row.operation row.scheme) one
-    → three ≡ with_member (codes "key") (bytes_tree row.key) two
-    → four ≡ with_member (codes "message") (bytes_tree row.message) three
-    → whole ≡ with_member (codes "signature") (bytes_tree row.signature) four → whole ≡ row_tree row
-unfolding row_tree
-row_written r start one two three four whole word named a b c d e f =
-    rw (f, e, d, c, b, a, named, with_some-object (codes "scheme") (scheme_tree r.operation r.scheme) _) refl
+use Rattle.sig_reply.specs.RowsText.{operation_word, rows_tree, scheme_tree}
 
 -- ---- a signature is read back
 

@@ -5,8 +5,8 @@ use Rattle.sig_base.specs.declared.scheme.VerifyScheme.{VerifyScheme}
 use Rattle.sig_base.specs.declared.checker.AcceptedRow.{AcceptedRow}
 use Rattle.sig_base.specs.declared.checker.Operation.{Operation}
 use Rattle.sig_base.specs.declared.checker.Operation.TheVariants.{Message, Prehash, Point, Certificate}
-use Rattle.sig_bundle.specs.Written.{IsReadAs, TreeMember, bytes_tree, list_tree, object_of}
-use Rattle.sig_json.specs.Builders.{with_last, with_member}
+use Rattle.sig_json.specs.Writing.{IsReadAs, TreeMember, bytes_tree, list_tree, object_of}
+use Rattle.sig_json.specs.Builders.{with_last}
 use Rattle.sig_json.specs.Data.{Data, string}
 use Rattle.sig_json.specs.Document.{document_of}
 use Rattle.sig_json.specs.Kinds.{bytes_of}
@@ -90,11 +90,6 @@ IsSchemeRead Message scheme = IsSchemeName scheme
 IsSchemeRead Prehash scheme = IsSchemeName scheme
 IsSchemeRead Point scheme = scheme ≡ []
 IsSchemeRead Certificate scheme = IsReadAs bytes_of (bytes_tree scheme) scheme
-
--- an object with this member, if it is there
-abbrev pub with_some : List ℕ → Option Data → Data → Data
-with_some name None d = d
-with_some name (Some value) d = with_member name value d
 
 -- a signature's object is read as the signature, as an element of `accepted`
 abbrev pub IsRowReadBack : AcceptedRow → Type 0

@@ -3,20 +3,16 @@
 //! ```text
 //! [{"key":"a2V5","message":"bG9n..YPQo=","operation":"message","scheme":"ED25519","signature":"c2ln"}]
 //! ```
-ghost use Rattle.std.specs.Prelude.{◌≡◌, ◌<◌, ◌≤◌, All, IfOk, IsSome, OnOk, codes, length};
-ghost use Rattle.sig_bundle.specs.Written.{IsReadAs, bytes_tree};
-ghost use Rattle.sig_json.specs.Builders.{with_member};
-ghost use Rattle.sig_json.specs.Data.{no_members, object, string};
-ghost use Rattle.sig_json.specs.Find.{as_array, as_object};
-ghost use Rattle.sig_json.specs.Kinds.{bytes_of};
+ghost use Rattle.std.specs.Prelude.{◌≡◌, ◌<◌, ◌≤◌, All, IfOk, IsSome, codes, length};
+ghost use Rattle.sig_json.specs.Find.{as_array};
 ghost use Rattle.sig_json.specs.Tree.{document_tree};
+ghost use Rattle.sig_json.specs.Writing.{members, put_some};
 ghost use Rattle.sig_json.specs.Written.{compact_text};
 ghost use Rattle.sig_reply.specs.RowsText.{AddsRow, HasScheme, IsDocumentOf, IsRowReadBack, IsSchemeName, IsSchemeRead, IsSchemeUnder};
 ghost use Rattle.sig_reply.specs.RowsText.{accepted_name, operation_word, room_beside, row_tree, scheme_tree};
-ghost use Rattle.sig_reply.specs.RowsText.{with_some};
 
 use sig_base::{AcceptedRow, Bytes, Operation, OutOfMemory, Text};
-use sig_json::Document;
+use sig_json::{Document, Object};
 use sig_json_text::compact;
 use sig_request::MOST_BYTES;
 use std::alloc::Global;
@@ -30,123 +26,6 @@ pub fn room_beside(request: &[u8]) -> usize
     ensures { result ≡ room_beside request.now }
 {
     (MOST_BYTES - ACCEPTED_NAME.len()).saturating_sub(request.len())
-}
-
-/// The name of an operation in a row.
-fn operation_word(operation: Operation) -> &'static str
-    ensures { result.now ≡ operation_word operation }
-{
-    match operation {
-        Operation::Message => "message",
-        Operation::Prehash => "prehash",
-        Operation::Point => "point",
-        Operation::Certificate => "certificate",
-    }
-}
-
-/// Sets a member of an object to a text. Fails only if out of memory.
-fn insert_text(
-    alloc: Global,
-    document: &mut Document,
-    name: &str,
-    text: &str,
-) -> Result<(), OutOfMemory>
-    requires { IsSome (as_object (document_tree document.old)) }
-    ensures { OnOk result (document_tree document.new
-        ≡ with_member name.now (string text.now) (document_tree document.old)) }
-{
-    let value = Document::of_text(alloc, text)?;
-    document.insert(alloc, name, value)
-}
-
-/// Sets a member of an object to bytes in base64. Fails only if out of memory.
-#[tactic(auto, using(sig_bundle::proofs::Values::values), unfolding(sig_bundle::specs::Written::bytes_tree))]
-fn insert_bytes(
-    alloc: Global,
-    document: &mut Document,
-    name: &str,
-    bytes: &Bytes,
-) -> Result<(), OutOfMemory>
-    requires { IsSome (as_object (document_tree document.old)) }
-    ensures tree { OnOk result (document_tree document.new
-        ≡ with_member name.now (bytes_tree bytes.now) (document_tree document.old)) }
-    ensures back { OnOk result (IsReadAs bytes_of (bytes_tree bytes.now) bytes.now) }
-{
-    let text = Text::in_base64(alloc, bytes.as_slice())?;
-    insert_text(alloc, document, name, text.as_str())
-}
-
-/// The name of a scheme, from its bytes.
-fn scheme_name(scheme: &Bytes) -> &str
-    requires { IsSchemeName scheme.now }
-    ensures { result.now ≡ scheme.now }
-{
-    let Ok(name) = std::str::from_utf8(scheme.as_slice()) else {
-        // A scheme's name is a text.
-        unreachable!()
-    };
-    name
-}
-
-/// Sets the scheme of a row: a scheme's name for a message and for a digest, absent for a point, and base64 of the
-/// AlgorithmIdentifier for a certificate. Fails only if out of memory.
-fn insert_scheme(
-    alloc: Global,
-    document: &mut Document,
-    row: &AcceptedRow,
-) -> Result<(), OutOfMemory>
-    requires object { IsSome (as_object (document_tree document.old)) }
-    requires scheme { IsSchemeUnder row.now.operation row.now.scheme }
-    ensures tree { OnOk result (document_tree document.new
-        ≡ with_some (codes "scheme") (scheme_tree row.now.operation row.now.scheme) (document_tree document.old)) }
-    ensures back { OnOk result (IsSchemeRead row.now.operation row.now.scheme) }
-{
-    match row.operation {
-        Operation::Message | Operation::Prehash => {
-            insert_text(alloc, document, "scheme", scheme_name(&row.scheme))
-        }
-        Operation::Point => Ok(()),
-        Operation::Certificate => insert_bytes(alloc, document, "scheme", &row.scheme),
-    }
-}
-
-/// Sets the members of a signature's object. Fails only if out of memory.
-#[tactic(auto, using(sig_bundle::proofs::Objects::objects))]
-fn insert_members(
-    alloc: Global,
-    document: &mut Document,
-    row: &AcceptedRow,
-) -> Result<(), OutOfMemory>
-    requires empty { document_tree document.old ≡ object no_members }
-    requires scheme { IsSchemeUnder row.now.operation row.now.scheme }
-    ensures tree { OnOk result (document_tree document.new ≡ row_tree row.now) }
-    ensures back { OnOk result (IsRowReadBack row.now) }
-{
-    insert_text(alloc, document, "operation", operation_word(row.operation))?;
-    insert_scheme(alloc, document, row)?;
-    insert_bytes(alloc, document, "key", &row.key)?;
-    insert_bytes(alloc, document, "message", &row.message)?;
-    insert_bytes(alloc, document, "signature", &row.signature)?;
-    Ok(())
-}
-
-/// A signature as an object, which is read back as an element of `accepted`. Fails only if out of memory.
-fn row_document(alloc: Global, row: &AcceptedRow) -> Result<Document, OutOfMemory>
-    requires { IsSchemeUnder row.now.operation row.now.scheme }
-    ensures tree { IfOk result (λ document. document_tree document ≡ row_tree row.now) }
-    ensures back { IfOk result (λ _. IsRowReadBack row.now) }
-{
-    let mut document = Document::object(alloc);
-    insert_members(alloc, &mut document, row)?;
-    Ok(document)
-}
-
-/// How many bytes a document has as text. Fails only if out of memory.
-fn compact_len(alloc: Global, document: &Document) -> Result<usize, OutOfMemory>
-    ensures { IfOk result (λ count. count ≡ length (compact_text (document_tree document.now))) }
-{
-    let text = compact(alloc, document.view())?;
-    Ok(text.as_str().len())
 }
 
 /// Adds a signature at the end of a list that takes `size` bytes except for its closing bracket, and returns what it
@@ -173,6 +52,70 @@ pub fn add_row(
     }
     list.push(document)?;
     Ok(Some(size + 1 + count))
+}
+
+/// A signature as an object, which is read back as an element of `accepted`. Fails only if out of memory.
+#[tactic(auto, using(crate::proofs::RowsTexts::row_back), unfolding(crate::specs::RowsText::row_tree))]
+fn row_document(alloc: Global, row: &AcceptedRow) -> Result<Document, OutOfMemory>
+    requires { IsSchemeUnder row.now.operation row.now.scheme }
+    ensures tree { IfOk result (λ document. document_tree document ≡ row_tree row.now) }
+    ensures back { IfOk result (λ _. IsRowReadBack row.now) }
+{
+    let object = Object::new(alloc).with_text(alloc, "operation", operation_word(row.operation))?;
+    let object = with_scheme(object, alloc, row)?
+        .with_bytes(alloc, "key", row.key.as_slice())?
+        .with_bytes(alloc, "message", row.message.as_slice())?
+        .with_bytes(alloc, "signature", row.signature.as_slice())?;
+    Ok(object.into_document())
+}
+
+/// The name of an operation in a row.
+fn operation_word(operation: Operation) -> &'static str
+    ensures { result.now ≡ operation_word operation }
+{
+    match operation {
+        Operation::Message => "message",
+        Operation::Prehash => "prehash",
+        Operation::Point => "point",
+        Operation::Certificate => "certificate",
+    }
+}
+
+/// The object with the scheme of a row: a scheme's name for a message and for a digest, absent for a point, and base64
+/// of the AlgorithmIdentifier for a certificate. Fails only if out of memory.
+fn with_scheme(object: Object, alloc: Global, row: &AcceptedRow) -> Result<Object, OutOfMemory>
+    requires { IsSchemeUnder row.now.operation row.now.scheme }
+    ensures tree { IfOk result (λ made. members made
+        ≡ put_some (codes "scheme") (scheme_tree row.now.operation row.now.scheme) (members object)) }
+    ensures back { IfOk result (λ _. IsSchemeRead row.now.operation row.now.scheme) }
+{
+    match row.operation {
+        Operation::Message | Operation::Prehash => {
+            object.with_text(alloc, "scheme", scheme_name(&row.scheme))
+        }
+        Operation::Point => Ok(object),
+        Operation::Certificate => object.with_bytes(alloc, "scheme", row.scheme.as_slice()),
+    }
+}
+
+/// The name of a scheme, from its bytes.
+fn scheme_name(scheme: &Bytes) -> &str
+    requires { IsSchemeName scheme.now }
+    ensures { result.now ≡ scheme.now }
+{
+    let Ok(name) = std::str::from_utf8(scheme.as_slice()) else {
+        // A scheme's name is a text.
+        unreachable!()
+    };
+    name
+}
+
+/// How many bytes a document has as text. Fails only if out of memory.
+fn compact_len(alloc: Global, document: &Document) -> Result<usize, OutOfMemory>
+    ensures { IfOk result (λ count. count ≡ length (compact_text (document_tree document.now))) }
+{
+    let text = compact(alloc, document.view())?;
+    Ok(text.as_str().len())
 }
 
 /// The document of a list of signatures, `None` if it would have more than `most` bytes. Fails only if out of memory.

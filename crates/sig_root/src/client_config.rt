@@ -38,13 +38,6 @@ impl ElementReader for ConfigReader {
     }
 }
 
-/// The trusted root that a configuration has, if any.
-fn read_config(alloc: Global, text: &[u8]) -> std::result::Result<Option<TrustedRoot>, JsonError>
-    ensures { Answers JsonError.OutOfMemory (λ root. root) result (configured_root_in text.now) }
-{
-    read_record_with::<ConfigReader>(alloc, text, &MEMBERS)
-}
-
 /// The trusted root that a configuration has to have.
 pub(crate) fn read_configured_root(alloc: Global, text: &[u8]) -> Result<TrustedRoot>
     ensures { Answers Memory (λ root. root) result (configured_root_of_text text.now) }
@@ -57,4 +50,11 @@ pub(crate) fn read_configured_root(alloc: Global, text: &[u8]) -> Result<Trusted
             SigstoreError::SigstorePKIFileMalformedError(PkiFault::NotReadable),
         ),
     }
+}
+
+/// The trusted root that a configuration has, if any.
+fn read_config(alloc: Global, text: &[u8]) -> std::result::Result<Option<TrustedRoot>, JsonError>
+    ensures { Answers JsonError.OutOfMemory (λ root. root) result (configured_root_in text.now) }
+{
+    read_record_with::<ConfigReader>(alloc, text, &MEMBERS)
 }

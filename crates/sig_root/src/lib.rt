@@ -24,6 +24,7 @@ mod sparse;
 mod trust_root;
 
 pub use manual::ManualTrustRoot;
+pub use picked::{pick_certificates, pick_keys};
 pub use read::read_trusted_root;
 pub use record::{
     CertificateAuthority, PublicKey, TimeRange, TransparencyLogInstance, TrustedRoot,

@@ -8,46 +8,9 @@ use crate::sparse::{SparseAuthority, SparseInstance};
 use sig_base::{Entries, KeyMap, OutOfMemory};
 use std::alloc::Global;
 
-/// Whether a range has begun by this second.
-pub(crate) fn has_begun(range: &Option<TimeRange>, now: i64) -> bool
-    ensures { result ≡ has_begun now range.now }
-{
-    match range {
-        Some(range) => match range.start {
-            Some(start) => start <= now,
-            None => true,
-        },
-        None => true,
-    }
-}
-
-/// Whether a range holds at this second: whether it has no start, or has begun and has not ended.
-fn holds(range: &Option<TimeRange>, now: i64) -> bool
-    ensures { result ≡ holds now range.now }
-{
-    match range {
-        Some(range) => match (range.start, range.end) {
-            (Some(start), Some(end)) => start <= now && now <= end,
-            (Some(start), None) => start <= now,
-            (None, _) => true,
-        },
-        None => true,
-    }
-}
-
-/// Adds copies of these certificates at the end.
-fn add_all(list: &mut Entries, certificates: &Entries) -> Result<(), OutOfMemory>
-    ensures { OnOk result (list.new ≡ list.old ++ certificates.now) }
-{
-    for certificate in certificates.as_slice() {
-        list.push(certificate.as_slice())?;
-    }
-    Ok(())
-}
-
-/// Returns all certificates, in order, of the authorities whose range has begun by this second. Fails only if out of
-/// memory.
-pub(crate) fn pick_certificates(
+/// Returns all certificates (DER), in order, of the authorities whose range has begun by this second, counted since 1970.
+/// Fails only if out of memory.
+pub fn pick_certificates(
     alloc: Global,
     authorities: &[SparseAuthority],
     now: i64,
@@ -78,9 +41,32 @@ fn add_certificates(
     }
 }
 
-/// Returns the keys whose range holds at this second, by their log ids. Of equal log ids the last counts.
-/// Fails only if out of memory.
-pub(crate) fn pick_keys(
+/// Whether a range has begun by this second.
+pub(crate) fn has_begun(range: &Option<TimeRange>, now: i64) -> bool
+    ensures { result ≡ has_begun now range.now }
+{
+    match range {
+        Some(range) => match range.start {
+            Some(start) => start <= now,
+            None => true,
+        },
+        None => true,
+    }
+}
+
+/// Adds copies of these certificates at the end.
+fn add_all(list: &mut Entries, certificates: &Entries) -> Result<(), OutOfMemory>
+    ensures { OnOk result (list.new ≡ list.old ++ certificates.now) }
+{
+    for certificate in certificates.as_slice() {
+        list.push(certificate.as_slice())?;
+    }
+    Ok(())
+}
+
+/// Returns the keys whose range holds at this second, counted since 1970, by their log ids in lower-case hexadecimal. Of
+/// equal log ids the last counts. Fails only if out of memory.
+pub fn pick_keys(
     alloc: Global,
     instances: &[SparseInstance],
     now: i64,
@@ -116,5 +102,19 @@ fn put_instance(
             keys.insert(name.as_str(), bytes.as_slice())
         }
         _ => Ok(()),
+    }
+}
+
+/// Whether a range holds at this second: whether it has no start, or has begun and has not ended.
+fn holds(range: &Option<TimeRange>, now: i64) -> bool
+    ensures { result ≡ holds now range.now }
+{
+    match range {
+        Some(range) => match (range.start, range.end) {
+            (Some(start), Some(end)) => start <= now && now <= end,
+            (Some(start), None) => start <= now,
+            (None, _) => true,
+        },
+        None => true,
     }
 }

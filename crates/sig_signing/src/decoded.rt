@@ -13,18 +13,6 @@ use sig_json_text::{CanonicalError, canonical};
 use sig_rekor_models::Body;
 use std::alloc::Global;
 
-/// The bytes that hexadecimal digits in either case are, however many.
-#[tactic(auto, unfolding(crate::specs::Decoded::hex_bytes))]
-pub(crate) fn decode_hex(alloc: Global, text: &[u8]) -> Result<Bytes, ConversionError>
-    ensures { Answers ConversionError.OutOfMemory (λ bytes. bytes) result (hex_or_refused text.now) }
-{
-    match hex::decode(alloc, text) {
-        Ok(bytes) => Ok(Bytes::from(bytes)),
-        Err(FromHexError::OutOfMemory) => Err(ConversionError::OutOfMemory),
-        Err(_) => Err(ConversionError::Refused),
-    }
-}
-
 /// The bytes that each of the texts is in hexadecimal, in order.
 #[tactic(auto, using(sig_base::proofs::EachFrom::each_left))]
 pub(crate) fn decode_each_hex(alloc: Global, texts: &Entries) -> Result<Entries, ConversionError>
@@ -36,6 +24,18 @@ pub(crate) fn decode_each_hex(alloc: Global, texts: &Entries) -> Result<Entries,
         found.push(bytes)?;
     }
     Ok(Entries::of(alloc, found))
+}
+
+/// The bytes that hexadecimal digits in either case are, however many.
+#[tactic(auto, unfolding(crate::specs::Decoded::hex_bytes))]
+pub(crate) fn decode_hex(alloc: Global, text: &[u8]) -> Result<Bytes, ConversionError>
+    ensures { Answers ConversionError.OutOfMemory (λ bytes. bytes) result (hex_or_refused text.now) }
+{
+    match hex::decode(alloc, text) {
+        Ok(bytes) => Ok(Bytes::from(bytes)),
+        Err(FromHexError::OutOfMemory) => Err(ConversionError::OutOfMemory),
+        Err(_) => Err(ConversionError::Refused),
+    }
 }
 
 /// The bytes that a text is in padded base64.

@@ -1,6 +1,6 @@
 -- The list of the one row is read back.
 use Rattle.std.proofs.Common.{[]}
-use Rattle.sig_bundle.proofs.Lists.{list_back-append, list_back-none}
+use Rattle.sig_json.proofs.WrittenLists.{list_back-append, list_back-none}
 use Rattle.sig_request.specs.Row.{row_of}
 use Rattle.sig_demo.proofs.Back.{always}
 use Rattle.sig_demo.specs.Request.{row_over, row_tree}

@@ -1,6 +1,6 @@
 use Rattle.std.proofs.Common.{arith, ap, ◌∙◌}
-use Rattle.sig_bundle.proofs.Lists.{list_back-none, list_more}
-use Rattle.sig_bundle.specs.Written.{bytes_tree}
+use Rattle.sig_json.proofs.WrittenLists.{list_back-none, list_more}
+use Rattle.sig_json.specs.Writing.{bytes_tree}
 use Rattle.sig_json.specs.Builders.{with_last}
 use Rattle.sig_json.specs.Kinds.{bytes_of}
 use Rattle.sig_json.specs.Tree.{document_tree}

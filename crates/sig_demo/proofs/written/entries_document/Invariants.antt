@@ -1,6 +1,6 @@
 -- What was written so far is the front of the list, and is read back.
 use Rattle.std.proofs.Common.{◌≡◌, take}
-use Rattle.sig_bundle.specs.Written.{IsReadAs, bytes_tree, list_tree}
+use Rattle.sig_json.specs.Writing.{IsReadAs, bytes_tree, list_tree}
 use Rattle.sig_json.specs.Kinds.{bytes_of}
 use Rattle.sig_json.specs.Member.{list_each}
 use Rattle.sig_json.specs.Tree.{document_tree}

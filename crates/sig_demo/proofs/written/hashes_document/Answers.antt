@@ -1,6 +1,6 @@
 use Rattle.std.proofs.Common.{arith, ap, ◌∙◌}
 use Rattle.std.proofs.lemmas.List.{get_or_default}
-use Rattle.sig_bundle.proofs.Lists.{list_back-none, list_more}
+use Rattle.sig_json.proofs.WrittenLists.{list_back-none, list_more}
 use Rattle.sig_json.specs.Builders.{with_last}
 use Rattle.sig_json.specs.Kinds.{hash_of}
 use Rattle.sig_json.specs.Tree.{document_tree}

@@ -1,6 +1,6 @@
 use Rattle.std.proofs.Common.{◌≡◌, Some, None, arith, rules}
 use Rattle.json.specs.Json.{read_key}
-use Rattle.sig_json.proofs.Keeping.{taken_whole, taken_float, kept_key_fault, kept_member_fault, kept_end}
+use Rattle.sig_json.proofs.KeptMembers.{taken_whole, taken_float, kept_key_fault, kept_member_fault, kept_end}
 use Rattle.sig_json.proofs.kept.read_kept_members.Goals as goal
 
 pub members-preserved-then-branch : goal.members-preserved-then-branch

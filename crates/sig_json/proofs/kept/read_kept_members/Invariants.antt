@@ -1,5 +1,5 @@
 use Rattle.std.proofs.Common.{length}
-use Rattle.sig_json.proofs.Keeping.{KeptSoFar}
+use Rattle.sig_json.proofs.KeptMembers.{KeptSoFar}
 use Rattle.sig_json.specs.Only.{names_of}
 use Rattle.sig_json.proofs.kept.read_kept_members.Given as goal
 

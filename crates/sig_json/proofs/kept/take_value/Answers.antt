@@ -1,5 +1,5 @@
 use Rattle.std.proofs.Common.{inl, sym, ◌∙◌}
-use Rattle.sig_json.proofs.Keeping.{passed_over}
+use Rattle.sig_json.proofs.KeptMembers.{passed_over}
 use Rattle.sig_json.proofs.kept.take_value.Goals as goal
 
 pub returns-then-not-is_among-clause-ok : goal.returns-then-not-is_among-clause-ok

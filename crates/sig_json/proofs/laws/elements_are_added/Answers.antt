@@ -1,4 +1,4 @@
-use Rattle.sig_json.proofs.Built.{added_last}
+use Rattle.sig_json.proofs.BuiltTrees.{added_last}
 use Rattle.sig_json.proofs.laws.elements_are_added.Goals as goal
 
 pub returns : goal.returns

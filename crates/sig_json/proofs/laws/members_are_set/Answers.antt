@@ -1,4 +1,4 @@
-use Rattle.sig_json.proofs.Built.{found_where_set, others_stay}
+use Rattle.sig_json.proofs.BuiltTrees.{found_where_set, others_stay}
 use Rattle.sig_json.proofs.laws.members_are_set.Goals as goal
 
 pub returns : goal.returns

@@ -1,4 +1,4 @@
-use Rattle.sig_json.proofs.Named.{names_differ}
+use Rattle.sig_json.proofs.NamedTrees.{names_differ}
 use Rattle.sig_json.proofs.laws.trees_are_named.Goals as goal
 
 pub returns : goal.returns

@@ -4,7 +4,7 @@ use Rattle.std.specs.Cow.{cow_str_bytes}
 use Rattle.std.specs.Cmp.Lexicographic.{slice_cmp}
 use Rattle.std.specs.List.{IsAllAdjacentAnswer}
 use Rattle.std.specs.Ordering.{nat_cmp, is_lt}
-use Rattle.sig_json.proofs.Ordered.{in_order_from_steps}
+use Rattle.sig_json.proofs.OrderedMembers.{in_order_from_steps}
 use Rattle.sig_json.specs.Gathered.{Entry}
 use Rattle.sig_json.proofs.order.ascends.Goals as goal
 

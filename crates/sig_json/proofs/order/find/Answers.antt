@@ -1,4 +1,4 @@
-use Rattle.sig_json.proofs.Ordered.{found_nowhere}
+use Rattle.sig_json.proofs.OrderedMembers.{found_nowhere}
 use Rattle.sig_json.proofs.order.find.Goals as goal
 
 pub returns-in-Err : goal.returns-in-Err

@@ -1,5 +1,5 @@
 use Rattle.std.proofs.Common.{arith, rules}
-use Rattle.sig_json.proofs.Scanned.{scanned_more}
+use Rattle.sig_json.proofs.MemberScans.{scanned_more}
 use Rattle.sig_json.proofs.order.first_of_name.Goals as goal
 
 pub members-preserved : goal.members-preserved

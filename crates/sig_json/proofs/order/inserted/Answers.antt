@@ -1,5 +1,5 @@
 use Rattle.std.proofs.Common.{◌≡◌, [], rules}
-use Rattle.sig_json.proofs.Ordered.{in_order-none, in_order-put}
+use Rattle.sig_json.proofs.OrderedMembers.{in_order-none, in_order-put}
 use Rattle.sig_json.proofs.order.inserted.Goals as goal
 
 pub members-init : goal.members-init

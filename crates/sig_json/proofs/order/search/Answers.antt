@@ -4,7 +4,7 @@ use Rattle.std.specs.Cow.{cow_str_bytes}
 use Rattle.std.specs.Cmp.Lexicographic.{slice_cmp}
 use Rattle.std.specs.Ordering.{nat_cmp}
 use Rattle.std.specs.declared.cmp.Ordering.{Ordering}
-use Rattle.sig_json.proofs.Ordered.{searched}
+use Rattle.sig_json.proofs.OrderedMembers.{searched}
 use Rattle.sig_json.specs.Gathered.{Entry}
 use Rattle.sig_json.proofs.order.search.Goals as goal
 

@@ -1,7 +1,7 @@
 -- A name that has no place among the members has no value.
 use Rattle.std.proofs.Common.{subst, ℕ, Result}
 use Rattle.sig_json.specs.Gathered.{IsPlaceOf}
-use Rattle.sig_json.proofs.Ordered.{found_nowhere}
+use Rattle.sig_json.proofs.OrderedMembers.{found_nowhere}
 use Rattle.sig_json.proofs.order.take_member.Goals as goal
 
 pub returns : goal.returns

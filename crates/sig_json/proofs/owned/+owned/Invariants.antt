@@ -1,6 +1,6 @@
 use Rattle.std.proofs.Common.{◌+◌, ◌*◌, length}
 use Rattle.serde_json.specs.Data.{depth, items_depth, members_depth}
-use Rattle.sig_json.proofs.Moved.{Moved}
+use Rattle.sig_json.proofs.MovedParts.{Moved}
 use Rattle.sig_json.specs.Gathered.{seen}
 use Rattle.sig_json.specs.View.{view, items_view, members_view}
 use Rattle.sig_json.proofs.owned.+owned.Given as goal

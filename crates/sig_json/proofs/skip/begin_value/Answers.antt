@@ -3,7 +3,7 @@ use Rattle.json.proofs.Grammar.{value_is}
 use Rattle.json.specs.Json.{value}
 use Rattle.json.specs.Reads.{token_of}
 use Rattle.serde_json.specs.Read.{of_json, converted}
-use Rattle.sig_json.proofs.Skipping.{number_none}
+use Rattle.sig_json.proofs.SkippedValues.{number_none}
 use Rattle.sig_json.proofs.skip.begin_value.Goals as goal
 
 pub returns-in_err-is_float-in-Number-clause-err : goal.returns-in_err-is_float-in-Number-clause-err

@@ -1,5 +1,5 @@
 use Rattle.std.proofs.Common.{◌≡◌, ◌∷◌, ◌≤◌, length}
-use Rattle.sig_json.proofs.Enclosed.{Inside}
+use Rattle.sig_json.proofs.OpenValues.{Inside}
 use Rattle.sig_json.specs.Skipped.{opening}
 use Rattle.sig_json.proofs.skip.skip_rest.Given as goal
 

@@ -1,7 +1,7 @@
 -- The sort moves the keys, and those of the same name stay in their order.
 use Rattle.std.proofs.Common.{◌≡◌, ap, subst, ◌∙◌, IsPermutation}
 use Rattle.std.specs.List.Sorted.{IsStableBy}
-use Rattle.sig_json.proofs.Sorting.{order_is}
+use Rattle.sig_json.proofs.SortedMembers.{order_is}
 use Rattle.sig_json.specs.Only.{names_of}
 use Rattle.sig_json.specs.Sorting.{ranked, entry_names, comes_first}
 use Rattle.sig_json.proofs.sort.order_of.Goals as goal

@@ -2,7 +2,7 @@
 use Rattle.std.proofs.Common.{rules}
 use Rattle.std.proofs.lemmas.Fn.{always_returns_same}
 use Rattle.std.proofs.lemmas.List.Sorted.{ranks_by, IsPermutation-trans}
-use Rattle.sig_json.proofs.Sorting.{key_order_total, stable_by_both}
+use Rattle.sig_json.proofs.SortedMembers.{key_order_total, stable_by_both}
 use Rattle.sig_json.specs.Only.{names_of}
 use Rattle.sig_json.specs.Sorting.{comes_first}
 use Rattle.sig_json.proofs.sort.put_in_order.Goals as goal

@@ -1,7 +1,7 @@
 use Rattle.std.proofs.Common.{◌≡◌, [], get_or, refl, sym, subst, ◌∙◌, arith}
 use Rattle.std.proofs.lemmas.List.{get_or_default, length-set}
-use Rattle.sig_json.proofs.Ordered.{in_order-none, in_order-put}
-use Rattle.sig_json.proofs.Sorting.{next_left, next_kept, none_left, no_entry}
+use Rattle.sig_json.proofs.OrderedMembers.{in_order-none, in_order-put}
+use Rattle.sig_json.proofs.SortedMembers.{next_left, next_kept, none_left, no_entry}
 use Rattle.sig_json.specs.Gathered.{Entry}
 use Rattle.sig_json.specs.Sorting.{IsOrderOf}
 use Rattle.sig_json.specs.declared.sort.Key.{Key}

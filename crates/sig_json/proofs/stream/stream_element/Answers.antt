@@ -1,4 +1,4 @@
-use Rattle.sig_json.proofs.Streaming.{element_passed}
+use Rattle.sig_json.proofs.StreamedLists.{element_passed}
 use Rattle.sig_json.specs.View.{view}
 use Rattle.sig_json.proofs.stream.stream_element.Goals as goal
 

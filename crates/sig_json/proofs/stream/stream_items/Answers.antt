@@ -1,6 +1,6 @@
 use Rattle.std.proofs.Common.{◌≡◌, Some, arith}
 use Rattle.json.specs.Json.{after_end_array}
-use Rattle.sig_json.proofs.Streaming.{items_end}
+use Rattle.sig_json.proofs.StreamedLists.{items_end}
 use Rattle.sig_json.proofs.stream.stream_items.Goals as goal
 
 pub returns-clause-ok : goal.returns-clause-ok

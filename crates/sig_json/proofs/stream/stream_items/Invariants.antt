@@ -1,5 +1,5 @@
 use Rattle.std.proofs.Common.{length, map}
-use Rattle.sig_json.proofs.Streaming.{ItemsSoFar}
+use Rattle.sig_json.proofs.StreamedLists.{ItemsSoFar}
 use Rattle.sig_json.proofs.stream.stream_items.Given as goal
 
 abbrev pub invariant-elements : goal.invariant-elements

@@ -1,6 +1,6 @@
 use Rattle.std.proofs.Common.{◌≡◌, Some, None, arith, rules}
 use Rattle.json.specs.Json.{read_key}
-use Rattle.sig_json.proofs.Streaming.{parts_taken, parts_end}
+use Rattle.sig_json.proofs.StreamedLists.{parts_taken, parts_end}
 use Rattle.sig_json.proofs.stream.stream_members.Goals as goal
 
 pub members-preserved : goal.members-preserved

@@ -1,5 +1,5 @@
 use Rattle.std.proofs.Common.{length, map}
-use Rattle.sig_json.proofs.Streaming.{PartsSoFar}
+use Rattle.sig_json.proofs.StreamedLists.{PartsSoFar}
 use Rattle.sig_json.specs.Only.{names_of}
 use Rattle.sig_json.proofs.stream.stream_members.Given as goal
 

@@ -1,6 +1,6 @@
 use Rattle.std.proofs.Common.{ℕ, List, Option, subst, string_bytes}
 use Rattle.sig_json_text.proofs.MemberTexts.{object_meant}
-use Rattle.sig_json.proofs.Named.{names_differ}
+use Rattle.sig_json.proofs.NamedTrees.{names_differ}
 use Rattle.sig_json_text.specs.Writes.{WritesPart}
 use Rattle.sig_json_text.proofs.canonical_form.+canon.Goals as goal
 

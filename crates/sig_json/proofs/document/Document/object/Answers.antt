@@ -1,4 +1,4 @@
-use Rattle.sig_json.proofs.Named.{empty_object_named}
+use Rattle.sig_json.proofs.NamedTrees.{empty_object_named}
 use Rattle.sig_json.proofs.document.Document.object.Goals as goal
 
 pub invariant_of-result-clause-named : goal.invariant_of-result-clause-named

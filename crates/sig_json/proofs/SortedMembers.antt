@@ -24,8 +24,8 @@ use Rattle.serde_json.specs.Data.{Data, Members, no_members, member, put}
 use Rattle.serde_json.specs.Find.{get_member}
 use Rattle.serde_json.proofs.Views.{get_member-put, get_member-put_other}
 use Rattle.sig_base.specs.ByText.{KeysAscend}
-use Rattle.sig_json.proofs.Named.{keys-put}
-use Rattle.sig_json.proofs.Ordered.{compare, same_from_tie, turned}
+use Rattle.sig_json.proofs.NamedTrees.{keys-put}
+use Rattle.sig_json.proofs.OrderedMembers.{compare, same_from_tie, turned}
 use Rattle.sig_json.specs.Gathered.{Entry, put_each, gathered}
 use Rattle.sig_json.specs.Members.{members_list}
 use Rattle.sig_json.specs.Sorting.{rank, ranked, entry_names, key_order, comes_first, entries_at, IsOrderOf}

@@ -10,8 +10,8 @@ use Rattle.std.specs.List.{insert}
 use Rattle.std.specs.Ordering.{nat_cmp, is_lt}
 use Rattle.std.specs.declared.cmp.Ordering.TheVariants.{Less, Equal}
 use Rattle.serde_json.specs.Data.{no_members, put}
-use Rattle.sig_json.proofs.Ordered.{ascend_by_place, ascending_stay, gathered_more, in_order-put, put_between}
-use Rattle.sig_json.proofs.Ordered.{less_from_is_lt}
+use Rattle.sig_json.proofs.OrderedMembers.{ascend_by_place, ascending_stay, gathered_more, in_order-put, put_between}
+use Rattle.sig_json.proofs.OrderedMembers.{less_from_is_lt}
 use Rattle.sig_json.specs.Gathered.{Entry, gathered, InOrder, AreInOrderIfFew, IsPlaceOf, few}
 use Rattle.sig_json.specs.View.{Words, view, members_view}
 use Rattle.sig_json.specs.declared.tree.Tree.{Tree}

@@ -2,9 +2,9 @@
 use Rattle.std.specs.Prelude.{◌≡◌, ℕ, ℤ, List, [], ◌∷◌, Option, Some, None, unwrap_or, ⊤}
 use Rattle.std.specs.Fmt.{signed_decimal}
 use Rattle.sig_base.specs.Base64.{base64_text}
-use Rattle.sig_json.specs.Data.{Data, string, array, object, Items, no_items, item, Members, no_members, put}
-use Rattle.sig_json.specs.Find.{as_object}
-use Rattle.sig_bundle.specs.declared.object.Object.{Object}
+use Rattle.serde_json.specs.Data.{Data, string, array, object, Items, no_items, item, Members, no_members, put}
+use Rattle.serde_json.specs.Find.{as_object}
+use Rattle.sig_json.specs.declared.object.Object.{Object}
 use Rattle.sig_json.specs.Member.{not_null}
 use Rattle.sig_json.specs.Tree.{document_tree}
 

@@ -12,7 +12,7 @@ use Rattle.std.specs.Ordering.{nat_cmp}
 use Rattle.std.specs.Prelude.{OnOk, OnErr}
 use Rattle.std.specs.Str.{IsUtf8}
 use Rattle.std.specs.declared.cmp.Ordering.TheVariants.{Less, Equal}
-use Rattle.sig_base.proofs.Ascending.{all_keys, ascend-insert_entry}
+use Rattle.sig_base.proofs.AscendingKeys.{all_keys, ascend-insert_entry}
 use Rattle.sig_base.specs.ByText.{KeysAscend}
 use Rattle.sig_json.proofs.Trees.{view-Object}
 use Rattle.serde_json.specs.Data.{Num, Data, null, boolean, number, string, array, object, Items, no_items, item}
@@ -24,7 +24,7 @@ use Rattle.sig_json.proofs.ByKind.{as_object_is}
 use Rattle.sig_json.proofs.ByOrdering.{choice_of_each, holds_of_choice}
 use Rattle.sig_json.specs.Builders.{with_member, with_last, items_with_last}
 use Rattle.sig_json.specs.Members.{members_list}
-use Rattle.sig_json.specs.Named.{HasNames, NamesAscend, IsNamedTree, AreNamed, HasNamedValues}
+use Rattle.sig_json.specs.NamedTree.{HasNames, NamesAscend, IsNamedTree, AreNamed, HasNamedValues}
 use Rattle.sig_json.specs.Gathered.{Entry}
 
 -- ---- what ascends differs

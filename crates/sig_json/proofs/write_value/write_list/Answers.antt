@@ -1,8 +1,8 @@
 use Rattle.std.proofs.Common.{arith, ap, ◌∙◌}
-use Rattle.sig_bundle.proofs.Lists.{list_back-none, list_more}
+use Rattle.sig_json.proofs.WrittenLists.{list_back-none, list_more}
 use Rattle.sig_json.specs.Builders.{with_last}
 use Rattle.sig_json.specs.Tree.{document_tree}
-use Rattle.sig_bundle.proofs.write_value.write_list.Goals as goal
+use Rattle.sig_json.proofs.write_value.write_list.Goals as goal
 
 pub loop-item-init : goal.loop-item-init
 loop-item-init g c = (c.list-list.ensures, list_back-none g.T.ElementWriter.meaning g.T.ElementWriter.written)

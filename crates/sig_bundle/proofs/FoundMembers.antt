@@ -7,7 +7,7 @@ use Rattle.sig_base.specs.OptionSteps.{◌>>=◌}
 use Rattle.sig_json.specs.Data.{Data, Members, no_members}
 use Rattle.sig_json.specs.Find.{get_member}
 use Rattle.sig_json.proofs.Views.{get_member-put, get_member-put_other}
-use Rattle.sig_bundle.specs.Written.{TreeMember, put_some, members_into, object_of, IsReadAs, OptionIsRead}
+use Rattle.sig_json.specs.Writing.{TreeMember, put_some, members_into, object_of, IsReadAs, OptionIsRead}
 use Rattle.sig_json.specs.Member.{member_of, not_null, optional, optional_or}
 
 -- ---- a member, as the rows give it: the last row of its name whose value is there

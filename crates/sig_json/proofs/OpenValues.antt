@@ -11,10 +11,10 @@ use Rattle.json.specs.Token.{Token}
 use Rattle.serde_json.specs.Data.{Data, array, object, Items, no_items, item, Members, no_members, put}
 use Rattle.serde_json.specs.Read.{of_json, converted}
 use Rattle.serde_json.specs.Written.{has_float, items_have_float, members_have_float}
-use Rattle.sig_json.proofs.Converted.{converted-array, converted-object, item_read, item_refused, items_over}
-use Rattle.sig_json.proofs.Converted.{member_read, member_refused, key_refused, members_over}
-use Rattle.sig_json.proofs.Building.{put_floatless}
-use Rattle.sig_json.proofs.Skipping.{twice}
+use Rattle.sig_json.proofs.TokenConversions.{converted-array, converted-object, item_read, item_refused, items_over}
+use Rattle.sig_json.proofs.TokenConversions.{member_read, member_refused, key_refused, members_over}
+use Rattle.sig_json.proofs.BuilderSteps.{put_floatless}
+use Rattle.sig_json.proofs.SkippedValues.{twice}
 use Rattle.sig_json.proofs.Tokens.{list_meant, object_meant, array_too_deep, object_too_deep, nothing_means_nothing}
 use Rattle.sig_json.specs.Skipped.{PassesValue, TakesEnd, opening, value_meant}
 

@@ -11,7 +11,7 @@ use Rattle.std.specs.declared.cmp.Ordering.TheVariants.{Less, Equal, Greater}
 use Rattle.serde_json.specs.Data.{Data, Members, member}
 use Rattle.serde_json.specs.Find.{get_member}
 use Rattle.sig_json.proofs.Lists.{members_from, none_left}
-use Rattle.sig_json.proofs.Ordered.{same_from_tie}
+use Rattle.sig_json.proofs.OrderedMembers.{same_from_tie}
 use Rattle.sig_json.specs.Gathered.{Entry}
 use Rattle.sig_json.specs.View.{view, members_view}
 

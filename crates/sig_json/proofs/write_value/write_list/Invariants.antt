@@ -1,9 +1,9 @@
 -- What was written so far is the front of the list, and is read back.
 use Rattle.std.proofs.Common.{◌≡◌, take}
-use Rattle.sig_bundle.specs.Written.{IsReadAs, list_tree}
+use Rattle.sig_json.specs.Writing.{IsReadAs, list_tree}
 use Rattle.sig_json.specs.Member.{list_each}
 use Rattle.sig_json.specs.Tree.{document_tree}
-use Rattle.sig_bundle.proofs.write_value.write_list.Given as goal
+use Rattle.sig_json.proofs.write_value.write_list.Given as goal
 
 abbrev pub invariant-loop-item : goal.invariant-loop-item
 invariant-loop-item g l =

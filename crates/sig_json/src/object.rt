@@ -1,11 +1,11 @@
 //! `Object`: an object of JSON that is being written.
 ghost use Rattle.std.specs.Prelude.{IsSome};
-ghost use Rattle.sig_json.specs.Find.{as_object};
+ghost use Rattle.serde_json.specs.Find.{as_object};
 ghost use Rattle.sig_json.specs.Tree.{document_tree};
 
+use crate::document::Document;
 use crate::write_value::{ElementWriter, write_bytes, write_integer, write_list};
 use sig_base::OutOfMemory;
-use sig_json::Document;
 use std::alloc::Global;
 
 /// An object of JSON. The value of a member is made by the call that sets it, so that a writer holds no value where a
@@ -20,11 +20,12 @@ pub struct Object {
 impl Object {
     ghost use Rattle.std.specs.Prelude.{◌≡◌, IfOk, option_map};
     ghost use Rattle.hex.specs.Hex.{encode_lower};
-    ghost use Rattle.sig_json.specs.Data.{object, no_members, put, string};
+    ghost use Rattle.serde_json.specs.Data.{object, no_members, number, put, string};
+    ghost use Rattle.serde_json.specs.Find.{of_integer};
     ghost use Rattle.sig_json.specs.Kinds.{bytes_of, i64_of};
     ghost use Rattle.sig_json.specs.Member.{list_each};
-    ghost use Rattle.sig_bundle.specs.Written.{IsReadAs, OptionIsRead, bytes_tree, integer_tree, list_tree};
-    ghost use Rattle.sig_bundle.specs.Written.{members, put_some};
+    ghost use Rattle.sig_json.specs.Writing.{IsReadAs, OptionIsRead, bytes_tree, integer_tree, list_tree};
+    ghost use Rattle.sig_json.specs.Writing.{members, put_some};
 
     /// An object without members. It takes no memory.
     pub fn new(alloc: Global) -> Object
@@ -72,8 +73,16 @@ impl Object {
         self.with(alloc, name, value)
     }
 
+    /// The object with this integer, as a number, as a member. Fails only if out of memory.
+    pub fn with_number(self, alloc: Global, name: &str, integer: i64) -> Result<Object, OutOfMemory>
+        ensures { IfOk result (λ made. members made
+            ≡ put name.now (number (of_integer integer)) (members self)) }
+    {
+        self.with(alloc, name, Document::of_integer(integer))
+    }
+
     /// The object with this integer, as a text, as a member. Fails only if out of memory.
-    pub(crate) fn with_integer(
+    pub fn with_integer(
         self,
         alloc: Global,
         name: &str,
@@ -88,7 +97,7 @@ impl Object {
     }
 
     /// The object with this value as a member. Fails only if out of memory.
-    pub(crate) fn with_written<T: ElementWriter>(
+    pub fn with_written<T: ElementWriter>(
         self,
         alloc: Global,
         name: &str,
@@ -103,7 +112,7 @@ impl Object {
     }
 
     /// The object with this value as a member, if it is there. Fails only if out of memory.
-    pub(crate) fn with_option<T: ElementWriter>(
+    pub fn with_option<T: ElementWriter>(
         self,
         alloc: Global,
         name: &str,
@@ -120,7 +129,7 @@ impl Object {
     }
 
     /// The object with this list as a member. Fails only if out of memory.
-    pub(crate) fn with_list<T: ElementWriter>(
+    pub fn with_list<T: ElementWriter>(
         self,
         alloc: Global,
         name: &str,

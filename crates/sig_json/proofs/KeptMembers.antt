@@ -12,15 +12,15 @@ use Rattle.json.specs.Token.{Token}
 use Rattle.serde_json.specs.Data.{object, Members, no_members, put}
 use Rattle.serde_json.specs.Read.{max_depth, read}
 use Rattle.serde_json.specs.Written.{members_have_float}
-use Rattle.sig_json.proofs.Building.{put_floatless}
-use Rattle.sig_json.proofs.Converted.{member_read, member_refused, key_refused, members_over}
-use Rattle.sig_json.proofs.Named.{ascend-put, keys-put, values-put}
+use Rattle.sig_json.proofs.BuilderSteps.{put_floatless}
+use Rattle.sig_json.proofs.TokenConversions.{member_read, member_refused, key_refused, members_over}
+use Rattle.sig_json.proofs.NamedTrees.{ascend-put, keys-put, values-put}
 use Rattle.sig_json.proofs.Only.{where_put_yes, where_put_no}
-use Rattle.sig_json.proofs.Ordered.{gathered_more}
-use Rattle.sig_json.proofs.Skipping.{object_is}
+use Rattle.sig_json.proofs.OrderedMembers.{gathered_more}
+use Rattle.sig_json.proofs.SkippedValues.{object_is}
 use Rattle.sig_json.proofs.Tokens.{Means, object_meant, object_refused, text_read, text_and_more, text_refused}
 use Rattle.sig_json.specs.Gathered.{Entry, gathered}
-use Rattle.sig_json.specs.Named.{IsNamedTree, NamesAscend, HasNamedValues}
+use Rattle.sig_json.specs.NamedTree.{IsNamedTree, NamesAscend, HasNamedValues}
 use Rattle.sig_json.specs.Only.{is_among, members_where}
 use Rattle.sig_json.specs.Skipped.{PassesValue, TakesValue, AreKeptMembers, KeepsMembers, KeepsOf, value_meant}
 use Rattle.sig_json.specs.Skipped.{members_meant}

@@ -8,8 +8,8 @@ use Rattle.json.specs.Token.{Token}
 use Rattle.serde_json.specs.Data.{null, boolean, number, string, array, object, Items, no_items, item, Members}
 use Rattle.serde_json.specs.Read.{number_of, of_json, converted}
 use Rattle.serde_json.specs.Written.{has_float, items_have_float}
-use Rattle.sig_json.proofs.Converted.{as_it_is, converted-array, converted-object, item_read}
-use Rattle.sig_json.proofs.Converted.{items_over}
+use Rattle.sig_json.proofs.TokenConversions.{as_it_is, converted-array, converted-object, item_read}
+use Rattle.sig_json.proofs.TokenConversions.{items_over}
 use Rattle.sig_json.proofs.Tokens.{list_meant, number_refused}
 use Rattle.sig_json.proofs.Tokens.{nothing_means_nothing}
 use Rattle.sig_json.specs.Skipped.{IsNumber, IsWhole, PassesValue, value_meant, items_meant}

@@ -19,11 +19,11 @@ use Rattle.std.specs.declared.cmp.Ordering.TheVariants.{Less, Equal, Greater}
 use Rattle.serde_json.specs.Data.{Data, Members, member, put}
 use Rattle.serde_json.specs.Find.{get, get_member, get_item, at}
 use Rattle.sig_json.proofs.ByOrdering.{choice_of_each}
-use Rattle.sig_json.proofs.Named.{keys-put}
+use Rattle.sig_json.proofs.NamedTrees.{keys-put}
 use Rattle.sig_base.specs.ByText.{KeysAscend}
 use Rattle.sig_json.specs.Gathered.{Entry, put_each, gathered, InOrder, IsPlaceOf}
 use Rattle.sig_json.specs.Members.{members_list}
-use Rattle.sig_json.specs.Named.{IsNamedTree}
+use Rattle.sig_json.specs.NamedTree.{IsNamedTree}
 use Rattle.sig_json.specs.View.{Words, view, items_view, members_view}
 use Rattle.sig_json.proofs.Trees.{view-Array, view-Object}
 use Rattle.sig_json.specs.declared.tree.Tree.{Tree, Array, Object}

@@ -3,8 +3,8 @@ use Rattle.std.proofs.Common.{◌≡◌, ℕ, ◌<◌, ◌+◌, List, [], ◌∷
 use Rattle.std.proofs.Common.{sym, ap, ◌∙◌}
 use Rattle.std.proofs.lemmas.List.{take_more}
 use Rattle.sig_base.specs.OptionSteps.{◌>>=◌}
-use Rattle.sig_json.specs.Data.{Data, item}
-use Rattle.sig_bundle.specs.Written.{IsReadAs, items_of, list_tree}
+use Rattle.serde_json.specs.Data.{Data, item}
+use Rattle.sig_json.specs.Writing.{IsReadAs, items_of, list_tree}
 use Rattle.sig_json.specs.Builders.{with_last, items_with_last}
 use Rattle.sig_json.specs.List.{items_list}
 use Rattle.sig_json.specs.Member.{each, list_each}

@@ -6,7 +6,7 @@ use Rattle.std.proofs.lemmas.Fmt.{digits_decimal, digits_value-decimal, decimal_
 use Rattle.std.specs.Fmt.{decimal}
 use Rattle.sig_base.specs.Base64.{base64_bytes, base64_text}
 use Rattle.sig_json.proofs.Numerals.{digits_model}
-use Rattle.sig_bundle.specs.Written.{IsReadAs, bytes_tree, integer_tree}
+use Rattle.sig_json.specs.Writing.{IsReadAs, bytes_tree, integer_tree}
 use Rattle.sig_json.specs.Integer.{natural_text, integer_text}
 use Rattle.sig_json.specs.Kinds.{bytes_of, i64_of}
 

@@ -19,8 +19,8 @@ use Rattle.sig_bundle.specs.BundleTree.{material_tree, message_signature_members
 use Rattle.sig_bundle.specs.BundleTree.{promise_record_tree, proof_members, proof_tree, signature_members}
 use Rattle.sig_bundle.specs.BundleTree.{dsse_signature_tree}
 use Rattle.sig_bundle.specs.BundleTree.{material_content_member}
-use Rattle.sig_bundle.specs.Written.{TreeMember, put_some, members_into, object_of, integer_tree, bytes_tree, items_of}
-use Rattle.sig_bundle.specs.Written.{list_tree}
+use Rattle.sig_json.specs.Writing.{TreeMember, put_some, members_into, object_of, integer_tree, bytes_tree, items_of}
+use Rattle.sig_json.specs.Writing.{list_tree}
 use Rattle.sig_bundle.specs.declared.bundle.Bundle.{Bundle}
 use Rattle.sig_bundle.specs.declared.bundle.Content.{Content}
 use Rattle.sig_bundle.specs.declared.bundle.Content.TheVariants as content

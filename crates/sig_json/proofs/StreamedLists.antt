@@ -18,18 +18,18 @@ use Rattle.serde_json.specs.Find.{get_member}
 use Rattle.serde_json.specs.Read.{max_depth}
 use Rattle.serde_json.specs.Written.{has_float, members_have_float}
 use Rattle.sig_base.specs.OptionSteps.{◌>>=◌}
-use Rattle.sig_json.proofs.Keeping.{KeptAt, at_start, at_more, at_same, at_end, at_part, at_named}
+use Rattle.sig_json.proofs.KeptMembers.{KeptAt, at_start, at_more, at_same, at_end, at_part, at_named}
 use Rattle.sig_json.proofs.KeptReading.{float-where}
 use Rattle.sig_json.proofs.Only.{floatless-both}
-use Rattle.sig_json.proofs.Reading.{document_of-float, document_of-read}
-use Rattle.sig_json.proofs.Skipping.{ListAt, list_at_start, list_at_step, list_at_end, array_is, object_is}
+use Rattle.sig_json.proofs.DocumentSteps.{document_of-float, document_of-read}
+use Rattle.sig_json.proofs.SkippedValues.{ListAt, list_at_start, list_at_step, list_at_end, array_is, object_is}
 use Rattle.sig_json.proofs.Tokens.{Means, text_read}
 use Rattle.sig_json.proofs.Trees.{view-Object}
 use Rattle.sig_json.specs.Document.{document_of}
 use Rattle.sig_json.specs.Gathered.{Entry, gathered}
 use Rattle.sig_json.specs.List.{items_list}
 use Rattle.sig_json.specs.Member.{each, list_each, optional_list, optional_or, member_of, not_null, there_or}
-use Rattle.sig_json.specs.Named.{IsNamedTree, NamesAscend, HasNamedValues}
+use Rattle.sig_json.specs.NamedTree.{IsNamedTree, NamesAscend, HasNamedValues}
 use Rattle.sig_json.specs.Only.{is_among, members_where, only}
 use Rattle.sig_json.specs.Record.{record_in, members_and_list}
 use Rattle.sig_json.specs.Skipped.{PassesValue, TakesValue}

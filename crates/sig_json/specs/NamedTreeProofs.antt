@@ -3,7 +3,7 @@ use Rattle.std.proofs.Props.{props}
 use mathlib.Core.HLevel.{×_prop, Unit-prop}
 use Rattle.serde_json.specs.Data.{Data, null, boolean, number, string, array, object, Items, no_items, item, Members}
 use Rattle.serde_json.specs.Data.{no_members, member}
-use Rattle.sig_json.specs.Named.{NamesAscend, IsNamedTree, AreNamed, HasNamedValues}
+use Rattle.sig_json.specs.NamedTree.{NamesAscend, IsNamedTree, AreNamed, HasNamedValues}
 
 pub NamesAscend-prop : (ms : Members) → IsProp (NamesAscend ms)
 NamesAscend-prop ms = hlevel props

@@ -1,10 +1,10 @@
 -- Objects, as a document holds them.
 use Rattle.std.proofs.Common.{◌≡◌, ℕ, List, refl}
 use Rattle.std.specs.Prelude.{IsSome}
-use Rattle.sig_json.proofs.Staying.{is_object-with_member}
-use Rattle.sig_json.specs.Data.{Data, null, boolean, number, string, array, object, put}
-use Rattle.sig_json.specs.Find.{as_object}
-use Rattle.sig_bundle.specs.Written.{members_in}
+use Rattle.sig_json.proofs.StableKinds.{is_object-with_member}
+use Rattle.serde_json.specs.Data.{Data, null, boolean, number, string, array, object, put}
+use Rattle.serde_json.specs.Find.{as_object}
+use Rattle.sig_json.specs.Writing.{members_in}
 use Rattle.sig_json.specs.Builders.{with_member}
 
 pub object-members_in : (d : Data) → IsSome (as_object d) → d ≡ object (members_in d)
