@@ -14,31 +14,6 @@ use sig_merkle::{
 };
 use std::alloc::{AllocError, Global};
 
-/// The letter for what an extractor returns.
-fn letter(found: Result<Option<Collision>, OutOfMemory>) -> &'static str {
-    match found {
-        Ok(None) => "n",
-        Ok(Some(found)) => {
-            drop(found);
-            "c"
-        }
-        Err(_) => "m",
-    }
-}
-
-/// The entries `entry 0`, `entry 1` and so on, so many of them, of which the one of this number is `other`.
-fn listed(alloc: Global, answer: &mut Answer, count: u64, changed: u64) -> Entries {
-    let mut entries = Entries::new(alloc);
-    for number in 0..count {
-        if number != changed {
-            push_numbered(alloc, answer, &mut entries, number);
-        } else if entries.push("other".as_bytes()).is_err() {
-            answer.out_of_memory();
-        }
-    }
-    entries
-}
-
 /// `fronts OLD NEW`: of so many numbered entries and the first of them: the digest of both roots, by `front_roots`, and
 /// a letter for what `consistency_collision` returns of the proof between them beside the entries, beside them with the
 /// first or the last changed, and beside one more and one fewer: `n` for `None`, `x` where the proof is not accepted.
@@ -54,14 +29,17 @@ pub(crate) fn fronts(arguments: &mut Arguments<'_>, answer: &mut Answer) {
     }
 }
 
-/// The proof between the first entries and all, which has no hash from none of them.
-fn proof_between(alloc: Global, entries: &Entries, old: usize) -> Result<Hashes, OutOfMemory>
-    requires { old ≤ length entries.now }
-{
-    if old == 0 {
-        return Ok(Hashes::new(alloc));
+/// The entries `entry 0`, `entry 1` and so on, so many of them, of which the one of this number is `other`.
+fn listed(alloc: Global, answer: &mut Answer, count: u64, changed: u64) -> Entries {
+    let mut entries = Entries::new(alloc);
+    for number in 0..count {
+        if number != changed {
+            push_numbered(alloc, answer, &mut entries, number);
+        } else if entries.push("other".as_bytes()).is_err() {
+            answer.out_of_memory();
+        }
     }
-    proof_of(alloc, entries, old)
+    entries
 }
 
 fn fronts_of(alloc: Global, answer: &mut Answer, entries: &Entries, old: usize)
@@ -89,6 +67,16 @@ fn fronts_of(alloc: Global, answer: &mut Answer, entries: &Entries, old: usize)
         }
         Err(_) => answer.out_of_memory(),
     }
+}
+
+/// The proof between the first entries and all, which has no hash from none of them.
+fn proof_between(alloc: Global, entries: &Entries, old: usize) -> Result<Hashes, OutOfMemory>
+    requires { old ≤ length entries.now }
+{
+    if old == 0 {
+        return Ok(Hashes::new(alloc));
+    }
+    proof_of(alloc, entries, old)
 }
 
 fn push_both(bytes: &mut Vec<u8>, old: &[u8; 32], new: &[u8; 32]) -> Result<(), AllocError> {
@@ -140,6 +128,18 @@ fn front_letter(alloc: Global, front: Front<'_>, entries: &Entries) -> &'static 
         return "x";
     }
     letter(consistency_collision(alloc, front.size, &front.root, front.hashes, entries))
+}
+
+/// The letter for what an extractor returns.
+fn letter(found: Result<Option<Collision>, OutOfMemory>) -> &'static str {
+    match found {
+        Ok(None) => "n",
+        Ok(Some(found)) => {
+            drop(found);
+            "c"
+        }
+        Err(_) => "m",
+    }
 }
 
 /// `twins INDEX COUNT`: of the path of one of so many numbered entries, a letter for what `proof_collision` returns of

@@ -74,23 +74,6 @@ pub(crate) fn sweep(arguments: &mut Arguments<'_>, answer: &mut Answer) {
     }
 }
 
-/// Adds the letters of the proof between so many of the entries and all.
-fn sweep_of(alloc: Global, answer: &mut Answer, entries: &Entries, old: usize)
-    requires some { 0 < old }
-    requires within { old ≤ length entries.now }
-{
-    let trees = Trees {
-        old_size: old as u64,
-        new_size: entries.len() as u64,
-        old_root: root_of(entries, old),
-        new_root: root_of(entries, entries.len()),
-    };
-    match proof_of(alloc, entries, old) {
-        Ok(proof) => swept(alloc, answer, &trees, proof.as_slice()),
-        Err(_) => answer.out_of_memory(),
-    }
-}
-
 /// The next argument as so many entries.
 fn numbered(arguments: &mut Arguments<'_>, answer: &mut Answer) -> Entries {
     let mut entries = Entries::new(arguments.alloc());
@@ -113,6 +96,23 @@ pub(crate) fn push_numbered(
                 answer.out_of_memory();
             }
         }
+        Err(_) => answer.out_of_memory(),
+    }
+}
+
+/// Adds the letters of the proof between so many of the entries and all.
+fn sweep_of(alloc: Global, answer: &mut Answer, entries: &Entries, old: usize)
+    requires some { 0 < old }
+    requires within { old ≤ length entries.now }
+{
+    let trees = Trees {
+        old_size: old as u64,
+        new_size: entries.len() as u64,
+        old_root: root_of(entries, old),
+        new_root: root_of(entries, entries.len()),
+    };
+    match proof_of(alloc, entries, old) {
+        Ok(proof) => swept(alloc, answer, &trees, proof.as_slice()),
         Err(_) => answer.out_of_memory(),
     }
 }
@@ -158,17 +158,11 @@ fn push_letters(
     push_other_sizes(letters, trees, proof)
 }
 
-/// Adds the letters of the proof between trees of which one size is one less or one more.
-fn push_other_sizes(
-    letters: &mut String,
-    trees: &Trees,
-    proof: &[[u8; 32]],
-) -> Result<(), AllocError> {
-    let (old, new) = (trees.old_size, trees.new_size);
-    letters.push_str(trees.letter_at(old.saturating_sub(1), new, proof))?;
-    letters.push_str(trees.letter_at(old.saturating_add(1), new, proof))?;
-    letters.push_str(trees.letter_at(old, new.saturating_sub(1), proof))?;
-    letters.push_str(trees.letter_at(old, new.saturating_add(1), proof))
+/// The hash with its first byte changed.
+fn flipped(hash: [u8; 32]) -> [u8; 32] {
+    let mut other = hash;
+    other[0] ^= 1;
+    other
 }
 
 /// Makes these hashes of the three lists.
@@ -184,9 +178,15 @@ fn change(
     changed.extend_from_slice(after)
 }
 
-/// The hash with its first byte changed.
-fn flipped(hash: [u8; 32]) -> [u8; 32] {
-    let mut other = hash;
-    other[0] ^= 1;
-    other
+/// Adds the letters of the proof between trees of which one size is one less or one more.
+fn push_other_sizes(
+    letters: &mut String,
+    trees: &Trees,
+    proof: &[[u8; 32]],
+) -> Result<(), AllocError> {
+    let (old, new) = (trees.old_size, trees.new_size);
+    letters.push_str(trees.letter_at(old.saturating_sub(1), new, proof))?;
+    letters.push_str(trees.letter_at(old.saturating_add(1), new, proof))?;
+    letters.push_str(trees.letter_at(old, new.saturating_sub(1), proof))?;
+    letters.push_str(trees.letter_at(old, new.saturating_add(1), proof))
 }

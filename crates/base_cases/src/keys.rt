@@ -71,6 +71,19 @@ fn key(arguments: &mut Arguments<'_>, answer: &mut Answer) -> CosignVerification
     }
 }
 
+/// `decode_bytes FORM SIGNATURE`: the bytes of the signature.
+pub(crate) fn decode(arguments: &mut Arguments<'_>, answer: &mut Answer) {
+    let is_base64 = is_base64(arguments);
+    let bytes = arguments.hex();
+    match signature_of(is_base64, &bytes).decode_bytes(arguments.alloc()) {
+        Ok(decoded) => {
+            answer.ok();
+            answer.hex(decoded.as_slice());
+        }
+        Err(error) => answer.error(error),
+    }
+}
+
 /// The next argument, `raw` or `base64`: whether the signature is a text in base64.
 fn is_base64(arguments: &mut Arguments<'_>) -> bool {
     match arguments.word() {
@@ -89,19 +102,6 @@ fn signature_of(is_base64: bool, bytes: &[u8]) -> Signature<'_> {
         Signature::Base64Encoded(bytes)
     } else {
         Signature::Raw(bytes)
-    }
-}
-
-/// `decode_bytes FORM SIGNATURE`: the bytes of the signature.
-pub(crate) fn decode(arguments: &mut Arguments<'_>, answer: &mut Answer) {
-    let is_base64 = is_base64(arguments);
-    let bytes = arguments.hex();
-    match signature_of(is_base64, &bytes).decode_bytes(arguments.alloc()) {
-        Ok(decoded) => {
-            answer.ok();
-            answer.hex(decoded.as_slice());
-        }
-        Err(error) => answer.error(error),
     }
 }
 

@@ -3,14 +3,6 @@
 use sig_base::{Hashes, KeyMap, Numbers, TextMap};
 use sig_cases::{Answer, Arguments};
 
-/// Adds bytes, or `None`.
-fn add_bytes(answer: &mut Answer, bytes: Option<&[u8]>) {
-    match bytes {
-        Some(bytes) => answer.hex(bytes),
-        None => answer.value(&"None"),
-    }
-}
-
 /// `key_map SOUGHT KEY BYTES ..`: the number of entries, the value that is sought, the entry at index 1, and all
 /// entries.
 pub(crate) fn key_map(arguments: &mut Arguments<'_>, answer: &mut Answer) {
@@ -53,6 +45,14 @@ fn show_key_map(answer: &mut Answer, map: &KeyMap, sought: &str) {
     }
     for (key, value) in map.iter() {
         add_key_and_bytes(answer, key, value);
+    }
+}
+
+/// Adds bytes, or `None`.
+fn add_bytes(answer: &mut Answer, bytes: Option<&[u8]>) {
+    match bytes {
+        Some(bytes) => answer.hex(bytes),
+        None => answer.value(&"None"),
     }
 }
 

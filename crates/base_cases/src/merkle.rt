@@ -64,6 +64,19 @@ pub(crate) fn show(answer: &mut Answer, hashes: Result<Hashes, OutOfMemory>) {
     }
 }
 
+/// `verify_inclusion INDEX LEAF SIZE PATH ROOT`: whether the leaf of this hash is at the index of the tree.
+pub(crate) fn inclusion(arguments: &mut Arguments<'_>, answer: &mut Answer) {
+    let index = arguments.natural();
+    let leaf = arguments.digest();
+    let size = arguments.natural();
+    let path = path(arguments, answer);
+    let root = arguments.digest();
+    match verify_inclusion(index, &leaf, size, path.as_slice(), &root) {
+        Ok(()) => answer.ok(),
+        Err(error) => answer.error(error),
+    }
+}
+
 /// The next argument as a list of hashes.
 pub(crate) fn path(arguments: &mut Arguments<'_>, answer: &mut Answer) -> Hashes {
     let mut path = Hashes::new(arguments.alloc());
@@ -77,19 +90,6 @@ pub(crate) fn path(arguments: &mut Arguments<'_>, answer: &mut Answer) -> Hashes
         }
     }
     path
-}
-
-/// `verify_inclusion INDEX LEAF SIZE PATH ROOT`: whether the leaf of this hash is at the index of the tree.
-pub(crate) fn inclusion(arguments: &mut Arguments<'_>, answer: &mut Answer) {
-    let index = arguments.natural();
-    let leaf = arguments.digest();
-    let size = arguments.natural();
-    let path = path(arguments, answer);
-    let root = arguments.digest();
-    match verify_inclusion(index, &leaf, size, path.as_slice(), &root) {
-        Ok(()) => answer.ok(),
-        Err(error) => answer.error(error),
-    }
 }
 
 /// `counted INDEX LEAF SIZE PATH`: the root that the path leads to, with a counter of steps.

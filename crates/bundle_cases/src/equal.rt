@@ -22,6 +22,14 @@ pub(crate) fn equal_parts(arguments: &mut Arguments<'_>, answer: &mut Answer) {
     drop(other);
 }
 
+/// Adds whether two parts are equal.
+fn compare<T: PartialEq>(answer: &mut Answer, one: Option<&T>, other: Option<&T>) {
+    match (one, other) {
+        (Some(one), Some(other)) => answer.value(&(*one == *other)),
+        _ => answer.value(&"-"),
+    }
+}
+
 fn material(bundle: &Bundle) -> Option<&VerificationMaterial> {
     bundle.verification_material.as_ref()
 }
@@ -32,12 +40,4 @@ fn signer(bundle: &Bundle) -> Option<&MaterialContent> {
 
 fn kind(bundle: &Bundle) -> Option<&KindVersion> {
     entry(bundle)?.kind_version.as_ref()
-}
-
-/// Adds whether two parts are equal.
-fn compare<T: PartialEq>(answer: &mut Answer, one: Option<&T>, other: Option<&T>) {
-    match (one, other) {
-        (Some(one), Some(other)) => answer.value(&(*one == *other)),
-        _ => answer.value(&"-"),
-    }
 }

@@ -12,34 +12,9 @@ use sig_key::CosignVerificationKey;
 use sig_payload::read_signing;
 use std::alloc::Global;
 
-/// The next argument as a text: `-` is none, and `=TEXT` is this one, in percent-encoding.
-pub(crate) fn optional_text(arguments: &mut Arguments<'_>) -> Option<Text> {
-    let text = arguments.text();
-    match text.as_str().strip_prefix("=") {
-        Some(said) => Some(text_of(arguments, said)),
-        None => {
-            if !text.is_empty() {
-                arguments.refuse();
-            }
-            None
-        }
-    }
-}
-
 /// The next argument as a text, in percent-encoding.
 pub(crate) fn text(arguments: &mut Arguments<'_>) -> Text {
     Text::from(arguments.text())
-}
-
-/// A copy of a text.
-pub(crate) fn text_of(arguments: &mut Arguments<'_>, text: &str) -> Text {
-    match Text::copy_of(arguments.alloc(), text) {
-        Ok(text) => text,
-        Err(_) => {
-            arguments.refuse();
-            Text::from(String::new(arguments.alloc()))
-        }
-    }
 }
 
 /// The next six arguments as a layer: its payload, its raw data in hexadecimal, its signature, its subject and issuer, and
@@ -66,6 +41,31 @@ fn layer_of(arguments: &mut Arguments<'_>, simple_signing: SimpleSigning) -> Sig
         bundle: bundle(arguments),
         signature,
         raw_data,
+    }
+}
+
+/// The next argument as a text: `-` is none, and `=TEXT` is this one, in percent-encoding.
+pub(crate) fn optional_text(arguments: &mut Arguments<'_>) -> Option<Text> {
+    let text = arguments.text();
+    match text.as_str().strip_prefix("=") {
+        Some(said) => Some(text_of(arguments, said)),
+        None => {
+            if !text.is_empty() {
+                arguments.refuse();
+            }
+            None
+        }
+    }
+}
+
+/// A copy of a text.
+pub(crate) fn text_of(arguments: &mut Arguments<'_>, text: &str) -> Text {
+    match Text::copy_of(arguments.alloc(), text) {
+        Ok(text) => text,
+        Err(_) => {
+            arguments.refuse();
+            Text::from(String::new(arguments.alloc()))
+        }
     }
 }
 
@@ -133,16 +133,6 @@ fn bundle(arguments: &mut Arguments<'_>) -> Option<BundleContent> {
     }
 }
 
-fn seconds(arguments: &mut Arguments<'_>, time: &str) -> i64 {
-    match time.parse::<i64>() {
-        Ok(seconds) => seconds,
-        Err(_) => {
-            arguments.refuse();
-            0
-        }
-    }
-}
-
 fn rekor(arguments: &mut Arguments<'_>, time: &str) -> Bundle {
     let integrated_time = seconds(arguments, time);
     Bundle {
@@ -153,6 +143,16 @@ fn rekor(arguments: &mut Arguments<'_>, time: &str) -> Bundle {
             log_index: 0,
             log_id: text_of(arguments, "00"),
         },
+    }
+}
+
+fn seconds(arguments: &mut Arguments<'_>, time: &str) -> i64 {
+    match time.parse::<i64>() {
+        Ok(seconds) => seconds,
+        Err(_) => {
+            arguments.refuse();
+            0
+        }
     }
 }
 

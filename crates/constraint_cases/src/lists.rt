@@ -12,37 +12,26 @@ use sig_constraint::{
 use sig_cosign::{SignatureLayer, SimpleSigning};
 use std::alloc::Global;
 
-/// The constraint in a box. `None` if out of memory.
-fn boxed<T: Drop>(alloc: Global, answer: &mut Answer, constraint: T) -> Option<Box<T>> {
-    match Box::new(alloc, constraint) {
-        Ok(held) => Some(held),
-        Err(_) => {
-            answer.out_of_memory();
-            None
+/// `verify SIGNATURES CONSTRAINTS`: whether layers with these signatures satisfy constraints of this program.
+pub(crate) fn verify(arguments: &mut Arguments<'_>, answer: &mut Answer) {
+    let alloc = arguments.alloc();
+    let layers = layers(arguments, answer);
+    let mut constraints: VerificationConstraintVec = Vec::new(alloc);
+    let word = arguments.word();
+    if word != "-" {
+        for item in word.split(',') {
+            let constraint = own(arguments, item);
+            if let Some(held) = boxed(alloc, answer, constraint) {
+                push_verifier(&mut constraints, held, answer);
+            }
         }
     }
-}
-
-fn push<T: Drop>(list: &mut Vec<T>, item: T, answer: &mut Answer) {
-    if list.push(item).is_err() {
-        answer.out_of_memory();
-    }
-}
-
-/// The constraint of this program that a word names: `always`, `never`, `fails` or `=SIGNATURE`.
-fn own(arguments: &mut Arguments<'_>, word: &str) -> Own {
-    match word {
-        "always" => Own::Always,
-        "never" => Own::Never,
-        "fails" => Own::Fails,
-        _ => match word.strip_prefix("=") {
-            Some(signature) => Own::Signed(text_of(arguments, signature)),
-            None => {
-                arguments.refuse();
-                Own::Never
-            }
-        },
-    }
+    show_verified(
+        answer,
+        verify_constraints(alloc, layers.as_slice(), constraints.as_slice()),
+    );
+    drop(constraints);
+    drop(layers);
 }
 
 /// The layers with the signatures of a list, of which `-` is the empty one. `+` before a number is so many of `x`.
@@ -79,26 +68,37 @@ fn signed(arguments: &mut Arguments<'_>, signature: &str) -> Option<SignatureLay
     }
 }
 
-/// `verify SIGNATURES CONSTRAINTS`: whether layers with these signatures satisfy constraints of this program.
-pub(crate) fn verify(arguments: &mut Arguments<'_>, answer: &mut Answer) {
-    let alloc = arguments.alloc();
-    let layers = layers(arguments, answer);
-    let mut constraints: VerificationConstraintVec = Vec::new(alloc);
-    let word = arguments.word();
-    if word != "-" {
-        for item in word.split(',') {
-            let constraint = own(arguments, item);
-            if let Some(held) = boxed(alloc, answer, constraint) {
-                push_verifier(&mut constraints, held, answer);
+fn push<T: Drop>(list: &mut Vec<T>, item: T, answer: &mut Answer) {
+    if list.push(item).is_err() {
+        answer.out_of_memory();
+    }
+}
+
+/// The constraint of this program that a word names: `always`, `never`, `fails` or `=SIGNATURE`.
+fn own(arguments: &mut Arguments<'_>, word: &str) -> Own {
+    match word {
+        "always" => Own::Always,
+        "never" => Own::Never,
+        "fails" => Own::Fails,
+        _ => match word.strip_prefix("=") {
+            Some(signature) => Own::Signed(text_of(arguments, signature)),
+            None => {
+                arguments.refuse();
+                Own::Never
             }
+        },
+    }
+}
+
+/// The constraint in a box. `None` if out of memory.
+fn boxed<T: Drop>(alloc: Global, answer: &mut Answer, constraint: T) -> Option<Box<T>> {
+    match Box::new(alloc, constraint) {
+        Ok(held) => Some(held),
+        Err(_) => {
+            answer.out_of_memory();
+            None
         }
     }
-    show_verified(
-        answer,
-        verify_constraints(alloc, layers.as_slice(), constraints.as_slice()),
-    );
-    drop(constraints);
-    drop(layers);
 }
 
 fn push_verifier(

@@ -8,6 +8,18 @@ use sig_constraint::{
     CertSubjectEmailVerifier, CertSubjectUrlVerifier, StringVerifier, VerificationConstraint,
 };
 
+/// `string ACCEPTED`: how the texts that are accepted are shown.
+pub(crate) fn string(arguments: &mut Arguments<'_>, answer: &mut Answer) {
+    match accepted(arguments) {
+        Some(accepted) => {
+            answer.ok();
+            answer.value(&accepted);
+            drop(accepted);
+        }
+        None => arguments.refuse(),
+    }
+}
+
 /// The next argument as the texts that are accepted: `exact:TEXT` or `regex:PATTERN`, in percent-encoding. `None` if it
 /// is `-`.
 fn accepted(arguments: &mut Arguments<'_>) -> Option<StringVerifier> {
@@ -34,18 +46,6 @@ fn accepted(arguments: &mut Arguments<'_>) -> Option<StringVerifier> {
             }
             None
         }
-    }
-}
-
-/// `string ACCEPTED`: how the texts that are accepted are shown.
-pub(crate) fn string(arguments: &mut Arguments<'_>, answer: &mut Answer) {
-    match accepted(arguments) {
-        Some(accepted) => {
-            answer.ok();
-            answer.value(&accepted);
-            drop(accepted);
-        }
-        None => arguments.refuse(),
     }
 }
 

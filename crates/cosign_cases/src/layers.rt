@@ -62,6 +62,39 @@ fn signature_if_any(arguments: &mut Arguments<'_>) -> Option<Text> {
     }
 }
 
+/// `layer DESCRIPTOR LAYER SOURCE KEYS POOL NOW ROWS`: the layer of a descriptor and its bytes.
+pub(crate) fn layer(arguments: &mut Arguments<'_>, answer: &mut Answer) {
+    let made = made(arguments, answer);
+    show_made(arguments.alloc(), answer, made);
+}
+
+/// `shown_layer DESCRIPTOR LAYER SOURCE KEYS POOL NOW ROWS`: the text that the same layer is shown as.
+pub(crate) fn shown_layer(arguments: &mut Arguments<'_>, answer: &mut Answer) {
+    let made = made(arguments, answer);
+    show_text(arguments.alloc(), answer, made);
+}
+
+fn made(arguments: &mut Arguments<'_>, answer: &mut Answer) -> sig_base::Result<SignatureLayer> {
+    let alloc = arguments.alloc();
+    let descriptor = descriptor(arguments, answer);
+    let fetched = fetched(arguments);
+    let source = arguments.text();
+    let keys = keys_if_any(arguments);
+    let pool = pool_if_any(arguments, answer);
+    let now = arguments.integer();
+    let checker = arguments.checker();
+    SignatureLayer::new(
+        alloc,
+        &descriptor,
+        &fetched,
+        source.as_str(),
+        keys.as_ref(),
+        pool.as_ref(),
+        now,
+        &checker,
+    )
+}
+
 /// The next arguments as a descriptor: media type, digest, `cert` and a certificate or `none`, how many annotations
 /// there are, and of each name and text.
 pub(crate) fn descriptor(arguments: &mut Arguments<'_>, answer: &mut Answer) -> OciDescriptor {
@@ -109,39 +142,6 @@ pub(crate) fn fetched(arguments: &mut Arguments<'_>) -> ImageLayer {
     }
 }
 
-/// `layer DESCRIPTOR LAYER SOURCE KEYS POOL NOW ROWS`: the layer of a descriptor and its bytes.
-pub(crate) fn layer(arguments: &mut Arguments<'_>, answer: &mut Answer) {
-    let made = made(arguments, answer);
-    show_made(arguments.alloc(), answer, made);
-}
-
-/// `shown_layer DESCRIPTOR LAYER SOURCE KEYS POOL NOW ROWS`: the text that the same layer is shown as.
-pub(crate) fn shown_layer(arguments: &mut Arguments<'_>, answer: &mut Answer) {
-    let made = made(arguments, answer);
-    show_text(arguments.alloc(), answer, made);
-}
-
-fn made(arguments: &mut Arguments<'_>, answer: &mut Answer) -> sig_base::Result<SignatureLayer> {
-    let alloc = arguments.alloc();
-    let descriptor = descriptor(arguments, answer);
-    let fetched = fetched(arguments);
-    let source = arguments.text();
-    let keys = keys_if_any(arguments);
-    let pool = pool_if_any(arguments, answer);
-    let now = arguments.integer();
-    let checker = arguments.checker();
-    SignatureLayer::new(
-        alloc,
-        &descriptor,
-        &fetched,
-        source.as_str(),
-        keys.as_ref(),
-        pool.as_ref(),
-        now,
-        &checker,
-    )
-}
-
 /// The text that a layer is shown as.
 pub(crate) fn show_text(
     alloc: Global,
@@ -163,13 +163,6 @@ pub(crate) fn show_text(
     }
 }
 
-fn show_signature(answer: &mut Answer, signature: &Option<Text>) {
-    match signature {
-        Some(text) => answer.debug(text),
-        None => answer.value(&"-"),
-    }
-}
-
 /// A layer: payload, digest, signature, what a log says of it, who signed, and raw data.
 pub(crate) fn show_made(
     alloc: Global,
@@ -186,7 +179,6 @@ pub(crate) fn show_made(
     }
 }
 
-/// Its parts.
 pub(crate) fn show_parts(alloc: Global, answer: &mut Answer, layer: &SignatureLayer) {
     show_signing(alloc, answer, &layer.simple_signing);
     answer.debug(&layer.oci_digest);
@@ -194,6 +186,13 @@ pub(crate) fn show_parts(alloc: Global, answer: &mut Answer, layer: &SignatureLa
     show_bundle(answer, &layer.bundle);
     show_signer_if_any(answer, &layer.certificate_signature);
     answer.hex(layer.raw_data.as_slice());
+}
+
+fn show_signature(answer: &mut Answer, signature: &Option<Text>) {
+    match signature {
+        Some(text) => answer.debug(text),
+        None => answer.value(&"-"),
+    }
 }
 
 fn show_bundle(answer: &mut Answer, bundle: &Option<BundleContent>) {

@@ -30,20 +30,6 @@ pub(crate) fn build(arguments: &mut Arguments<'_>, answer: &mut Answer) {
     show(alloc, answer, made);
 }
 
-fn show(alloc: Global, answer: &mut Answer, made: sig_base::Result<Layers>) {
-    match made {
-        Ok(layers) => {
-            answer.ok();
-            answer.value(&layers.len());
-            for layer in layers.as_slice() {
-                show_parts(alloc, answer, layer);
-            }
-            drop(layers);
-        }
-        Err(error) => answer.error(error),
-    }
-}
-
 fn descriptors(arguments: &mut Arguments<'_>, answer: &mut Answer) -> Vec<OciDescriptor> {
     let mut descriptors = Vec::new(arguments.alloc());
     let count = arguments.natural();
@@ -72,4 +58,18 @@ fn layers(arguments: &mut Arguments<'_>, answer: &mut Answer) -> Vec<ImageLayer>
         }
     }
     layers
+}
+
+fn show(alloc: Global, answer: &mut Answer, made: sig_base::Result<Layers>) {
+    match made {
+        Ok(layers) => {
+            answer.ok();
+            answer.value(&layers.len());
+            for layer in layers.as_slice() {
+                show_parts(alloc, answer, layer);
+            }
+            drop(layers);
+        }
+        Err(error) => answer.error(error),
+    }
 }

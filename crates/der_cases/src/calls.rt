@@ -7,17 +7,6 @@ use sig_der::{
     write_short,
 };
 
-/// The next argument as one byte.
-pub(crate) fn tag(arguments: &mut Arguments<'_>) -> u8 {
-    match arguments.hex().as_slice() {
-        [tag] => *tag,
-        _ => {
-            arguments.refuse();
-            0
-        }
-    }
-}
-
 /// `read_element BYTES`: the tag, the content and what follows.
 pub(crate) fn read(arguments: &mut Arguments<'_>, answer: &mut Answer) {
     match read_element(&arguments.hex()) {
@@ -40,6 +29,17 @@ pub(crate) fn read_whole(arguments: &mut Arguments<'_>, answer: &mut Answer) {
             answer.hex(element.content);
         }
         Err(error) => answer.error(error),
+    }
+}
+
+/// The next argument as one byte.
+pub(crate) fn tag(arguments: &mut Arguments<'_>) -> u8 {
+    match arguments.hex().as_slice() {
+        [tag] => *tag,
+        _ => {
+            arguments.refuse();
+            0
+        }
     }
 }
 

@@ -4,13 +4,6 @@ use crate::calls::tag;
 use sig_cases::{Answer, Arguments};
 use sig_der::{Place, Reader, whole_key_info};
 
-fn placed(answer: &mut Answer, place: Place) {
-    answer.hex(&[place.tag]);
-    answer.value(&place.start);
-    answer.value(&place.content);
-    answer.value(&place.end);
-}
-
 /// `place_at BYTES AT END`: the tag, and where the element, its content and what follows begin.
 pub(crate) fn front(arguments: &mut Arguments<'_>, answer: &mut Answer) {
     let bytes = arguments.hex();
@@ -31,6 +24,13 @@ pub(crate) fn front(arguments: &mut Arguments<'_>, answer: &mut Answer) {
         }
         None => answer.value(&"none"),
     }
+}
+
+fn placed(answer: &mut Answer, place: Place) {
+    answer.hex(&[place.tag]);
+    answer.value(&place.start);
+    answer.value(&place.content);
+    answer.value(&place.end);
 }
 
 /// `optional_at BYTES TAG`: where what follows begins, and the element, if there is one.

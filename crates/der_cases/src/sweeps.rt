@@ -6,6 +6,27 @@ use sig_cases::{Answer, Arguments};
 use sig_der::read_element;
 use std::alloc::AllocError;
 
+/// `prefixes BYTES`: the digest of the readings of every prefix at its first 32 offsets.
+pub(crate) fn prefixes(arguments: &mut Arguments<'_>, answer: &mut Answer) {
+    let bytes = arguments.hex();
+    let mut out = Vec::new(arguments.alloc());
+    for n in 0..=bytes.len() {
+        if note_each(&mut out, &bytes[..n], 0, 32).is_err() {
+            answer.out_of_memory();
+        }
+    }
+    answer.ok();
+    answer.hex(&sha256(&out));
+}
+
+/// Appends how the bytes read at each offset from one up to another.
+fn note_each(out: &mut Vec<u8>, bytes: &[u8], from: usize, to: usize) -> Result<(), AllocError> {
+    for at in from..to.min(bytes.len()) {
+        note(out, &bytes[at..])?;
+    }
+    Ok(())
+}
+
 /// Appends how the bytes read: 0, the tag and the lengths of content and rest in eight bytes each; or the number of
 /// the error.
 fn note(out: &mut Vec<u8>, bytes: &[u8]) -> Result<(), AllocError> {
@@ -26,27 +47,6 @@ fn number(error: DerError) -> u8 {
         DerError::Length => 3,
         _ => 4,
     }
-}
-
-/// Appends how the bytes read at each offset from one up to another.
-fn note_each(out: &mut Vec<u8>, bytes: &[u8], from: usize, to: usize) -> Result<(), AllocError> {
-    for at in from..to.min(bytes.len()) {
-        note(out, &bytes[at..])?;
-    }
-    Ok(())
-}
-
-/// `prefixes BYTES`: the digest of the readings of every prefix at its first 32 offsets.
-pub(crate) fn prefixes(arguments: &mut Arguments<'_>, answer: &mut Answer) {
-    let bytes = arguments.hex();
-    let mut out = Vec::new(arguments.alloc());
-    for n in 0..=bytes.len() {
-        if note_each(&mut out, &bytes[..n], 0, 32).is_err() {
-            answer.out_of_memory();
-        }
-    }
-    answer.ok();
-    answer.hex(&sha256(&out));
 }
 
 /// `flips BYTES MASK`: the digest of the readings of the bytes with each byte in turn changed by the mask, at the

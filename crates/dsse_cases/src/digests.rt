@@ -5,13 +5,11 @@ use sig_dsse::{ArtifactDigest, Digests, laws, payload_digests};
 use std::alloc::Global;
 use std::fmt::{Debug, Display};
 
-/// Adds a digest with its algorithm.
-fn add_digest(alloc: Global, answer: &mut Answer, digest: &ArtifactDigest) {
-    answer.value(&digest.algorithm());
-    match digest.to_hex(alloc) {
-        Ok(text) => answer.value(&text.as_str()),
-        Err(_) => answer.out_of_memory(),
-    }
+/// `payload_digests PAYLOAD`: the digests of the statement that the payload is.
+pub(crate) fn of_payload(arguments: &mut Arguments<'_>, answer: &mut Answer) {
+    let alloc = arguments.alloc();
+    let payload = arguments.rest().as_bytes();
+    add_taken(alloc, answer, payload_digests(alloc, payload));
 }
 
 /// Adds the digests that were taken.
@@ -31,11 +29,13 @@ pub(crate) fn add_taken<E: Debug + Display + Drop>(
     }
 }
 
-/// `payload_digests PAYLOAD`: the digests of the statement that the payload is.
-pub(crate) fn of_payload(arguments: &mut Arguments<'_>, answer: &mut Answer) {
-    let alloc = arguments.alloc();
-    let payload = arguments.rest().as_bytes();
-    add_taken(alloc, answer, payload_digests(alloc, payload));
+/// Adds a digest with its algorithm.
+fn add_digest(alloc: Global, answer: &mut Answer, digest: &ArtifactDigest) {
+    answer.value(&digest.algorithm());
+    match digest.to_hex(alloc) {
+        Ok(text) => answer.value(&text.as_str()),
+        Err(_) => answer.out_of_memory(),
+    }
 }
 
 /// `sha256 BYTES`: the digest of the bytes, by a hasher that took them.

@@ -46,6 +46,17 @@ fn whole(alloc: Global, answer: &mut Answer, statement: &InTotoStatementV1) {
     }
 }
 
+/// Adds what a document is, or `-` where there is none.
+fn add_document(alloc: Global, answer: &mut Answer, document: &Option<Document>) {
+    let Some(document) = document else {
+        return answer.value(&"-");
+    };
+    match compact(alloc, document.view()) {
+        Ok(text) => answer.value(&text.as_str()),
+        Err(_) => answer.out_of_memory(),
+    }
+}
+
 /// Adds what a subject says.
 fn add_subject(alloc: Global, answer: &mut Answer, subject: &Subject) {
     match &subject.name {
@@ -56,17 +67,6 @@ fn add_subject(alloc: Global, answer: &mut Answer, subject: &Subject) {
         answer.value(&format_args!("{algorithm}={digest:?}"));
     }
     add_document(alloc, answer, &subject.annotations);
-}
-
-/// Adds what a document is, or `-` where there is none.
-fn add_document(alloc: Global, answer: &mut Answer, document: &Option<Document>) {
-    let Some(document) = document else {
-        return answer.value(&"-");
-    };
-    match compact(alloc, document.view()) {
-        Ok(text) => answer.value(&text.as_str()),
-        Err(_) => answer.out_of_memory(),
-    }
 }
 
 /// `cosign PAYLOAD`: whether the statement is one as `cosign` signs it.

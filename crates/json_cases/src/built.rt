@@ -16,7 +16,7 @@ struct BuiltObject {
     ghost is_object: { IsSome (as_object (document_tree document)) },
 }
 
-#[tactic(auto, using(sig_json::proofs::Staying::staying))]
+#[tactic(auto, using(sig_json::proofs::StableKinds::staying))]
 impl BuiltObject {
     /// Sets this member. Fails only if out of memory.
     fn set(&mut self, alloc: Global, name: &str, value: Document) -> Result<(), OutOfMemory> {
@@ -31,12 +31,32 @@ struct BuiltList {
     ghost is_list: { IsSome (as_array (document_tree document)) },
 }
 
-#[tactic(auto, using(sig_json::proofs::Staying::staying))]
+#[tactic(auto, using(sig_json::proofs::StableKinds::staying))]
 impl BuiltList {
     /// Adds this value. Fails only if out of memory.
     fn push(&mut self, value: Document) -> Result<(), OutOfMemory> {
         self.document.push(value)
     }
+}
+
+/// `object NAME VALUE NAME VALUE ..`: the object in which these members are set in turn.
+pub(crate) fn object(arguments: &mut Arguments<'_>, answer: &mut Answer) {
+    let alloc = arguments.alloc();
+    let mut object = BuiltObject {
+        document: Document::object(alloc),
+    };
+    for _ in 0..u64::MAX {
+        if arguments.is_empty() {
+            break;
+        }
+        let name = arguments.text();
+        let value = part(arguments, answer);
+        if object.set(alloc, name.as_str(), value).is_err() {
+            answer.out_of_memory();
+        }
+    }
+    answer.ok();
+    add_tree(alloc, answer, object.document.view());
 }
 
 /// A value of the next two arguments: `integer` and an integer, or `text` or `json` and a text in percent-encoding.
@@ -70,26 +90,6 @@ fn made(alloc: Global, answer: &mut Answer, made: Result<Document, OutOfMemory>)
             Document::list(alloc)
         }
     }
-}
-
-/// `object NAME VALUE NAME VALUE ..`: the object in which these members are set in turn.
-pub(crate) fn object(arguments: &mut Arguments<'_>, answer: &mut Answer) {
-    let alloc = arguments.alloc();
-    let mut object = BuiltObject {
-        document: Document::object(alloc),
-    };
-    for _ in 0..u64::MAX {
-        if arguments.is_empty() {
-            break;
-        }
-        let name = arguments.text();
-        let value = part(arguments, answer);
-        if object.set(alloc, name.as_str(), value).is_err() {
-            answer.out_of_memory();
-        }
-    }
-    answer.ok();
-    add_tree(alloc, answer, object.document.view());
 }
 
 /// `list VALUE VALUE ..`: the list to which these values are added in turn.

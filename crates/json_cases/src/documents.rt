@@ -4,6 +4,12 @@ use sig_json::{Document, DocumentError, Json};
 use sig_json_text::{canonical, compact, quoted};
 use std::alloc::Global;
 
+/// The document of the next arguments. A text that is none makes the line a bad one.
+pub(crate) fn document(arguments: &mut Arguments<'_>, answer: &mut Answer) -> Document {
+    let text = bytes(arguments, answer);
+    document_of(arguments, &text)
+}
+
 /// The bytes of the next arguments: the rest of the line after `json`, or one word in hexadecimal after `hex`.
 pub(crate) fn bytes(arguments: &mut Arguments<'_>, answer: &mut Answer) -> Vec<u8> {
     match arguments.word() {
@@ -24,12 +30,6 @@ fn copied(alloc: Global, answer: &mut Answer, text: &str) -> Vec<u8> {
     bytes
 }
 
-/// The document of the next arguments. A text that is none makes the line a bad one.
-pub(crate) fn document(arguments: &mut Arguments<'_>, answer: &mut Answer) -> Document {
-    let text = bytes(arguments, answer);
-    document_of(arguments, &text)
-}
-
 /// The document that a text is. One that is none makes the line a bad one.
 pub(crate) fn document_of(arguments: &mut Arguments<'_>, text: &[u8]) -> Document {
     match Document::read(arguments.alloc(), text) {
@@ -39,6 +39,47 @@ pub(crate) fn document_of(arguments: &mut Arguments<'_>, text: &[u8]) -> Documen
             Document::list(arguments.alloc())
         }
     }
+}
+
+/// `read DOCUMENT`: the compact text of its tree.
+pub(crate) fn read(arguments: &mut Arguments<'_>, answer: &mut Answer) {
+    let alloc = arguments.alloc();
+    let text = bytes(arguments, answer);
+    add_read(alloc, answer, Document::read(alloc, &text));
+}
+
+/// Adds what was read: the compact text of the tree.
+fn add_read(alloc: Global, answer: &mut Answer, read: Result<Document, DocumentError>) {
+    match read {
+        Ok(document) => {
+            answer.ok();
+            add_tree(alloc, answer, document.view());
+            drop(document);
+        }
+        Err(error) => answer.error(error),
+    }
+}
+
+/// Adds the compact text of a tree.
+pub(crate) fn add_tree(alloc: Global, answer: &mut Answer, json: Json<'_, '_>) {
+    match compact(alloc, json) {
+        Ok(text) => answer.value(&text.as_str()),
+        Err(_) => answer.out_of_memory(),
+    }
+}
+
+/// `read_members COUNT NAME.. DOCUMENT`: the compact text of its tree, of an object with its members of these names
+/// alone.
+pub(crate) fn read_members(arguments: &mut Arguments<'_>, answer: &mut Answer) {
+    let alloc = arguments.alloc();
+    let names = names(arguments, answer);
+    let borrowed = borrowed(alloc, answer, &names);
+    let text = bytes(arguments, answer);
+    add_read(
+        alloc,
+        answer,
+        Document::read_members(alloc, &text, &borrowed),
+    );
 }
 
 /// So many names as the next argument says.
@@ -64,55 +105,6 @@ pub(crate) fn borrowed<'a>(
         }
     }
     borrowed
-}
-
-/// Adds a text in quotation marks.
-pub(crate) fn add_text(alloc: Global, answer: &mut Answer, text: &str) {
-    match quoted(alloc, text) {
-        Ok(written) => answer.value(&written.as_str()),
-        Err(_) => answer.out_of_memory(),
-    }
-}
-
-/// Adds the compact text of a tree.
-pub(crate) fn add_tree(alloc: Global, answer: &mut Answer, json: Json<'_, '_>) {
-    match compact(alloc, json) {
-        Ok(text) => answer.value(&text.as_str()),
-        Err(_) => answer.out_of_memory(),
-    }
-}
-
-/// Adds what was read: the compact text of the tree.
-fn add_read(alloc: Global, answer: &mut Answer, read: Result<Document, DocumentError>) {
-    match read {
-        Ok(document) => {
-            answer.ok();
-            add_tree(alloc, answer, document.view());
-            drop(document);
-        }
-        Err(error) => answer.error(error),
-    }
-}
-
-/// `read DOCUMENT`: the compact text of its tree.
-pub(crate) fn read(arguments: &mut Arguments<'_>, answer: &mut Answer) {
-    let alloc = arguments.alloc();
-    let text = bytes(arguments, answer);
-    add_read(alloc, answer, Document::read(alloc, &text));
-}
-
-/// `read_members COUNT NAME.. DOCUMENT`: the compact text of its tree, of an object with its members of these names
-/// alone.
-pub(crate) fn read_members(arguments: &mut Arguments<'_>, answer: &mut Answer) {
-    let alloc = arguments.alloc();
-    let names = names(arguments, answer);
-    let borrowed = borrowed(alloc, answer, &names);
-    let text = bytes(arguments, answer);
-    add_read(
-        alloc,
-        answer,
-        Document::read_members(alloc, &text, &borrowed),
-    );
 }
 
 /// `read_back DOCUMENT`: whether its compact text is read as an equal tree, and has itself as its compact text.
@@ -182,4 +174,12 @@ fn add_canonical(alloc: Global, answer: &mut Answer, json: Json<'_, '_>) {
 pub(crate) fn quoted_text(arguments: &mut Arguments<'_>, answer: &mut Answer) {
     answer.ok();
     add_text(arguments.alloc(), answer, arguments.text().as_str());
+}
+
+/// Adds a text in quotation marks.
+pub(crate) fn add_text(alloc: Global, answer: &mut Answer, text: &str) {
+    match quoted(alloc, text) {
+        Ok(written) => answer.value(&written.as_str()),
+        Err(_) => answer.out_of_memory(),
+    }
 }

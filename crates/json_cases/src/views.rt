@@ -5,22 +5,6 @@ use sig_json::Json;
 use std::alloc::Global;
 use std::fmt::Display;
 
-/// Adds a value, `none` where there is none.
-fn add_value<T: Display + Drop>(answer: &mut Answer, value: Option<T>) {
-    match value {
-        Some(value) => answer.value(&value),
-        None => answer.value(&"none"),
-    }
-}
-
-/// Adds the compact text of a tree, `none` where there is none.
-fn add_found(alloc: Global, answer: &mut Answer, found: Option<Json<'_, '_>>) {
-    match found {
-        Some(json) => add_tree(alloc, answer, json),
-        None => answer.value(&"none"),
-    }
-}
-
 /// `values DOCUMENT`: whether the value is null, its truth value, its integer, its text, how many elements it has,
 /// each `none` if it is not such a value, and whether it has members.
 pub(crate) fn values(arguments: &mut Arguments<'_>, answer: &mut Answer) {
@@ -39,6 +23,14 @@ pub(crate) fn values(arguments: &mut Arguments<'_>, answer: &mut Answer) {
     drop(document);
 }
 
+/// Adds a value, `none` where there is none.
+fn add_value<T: Display + Drop>(answer: &mut Answer, value: Option<T>) {
+    match value {
+        Some(value) => answer.value(&value),
+        None => answer.value(&"none"),
+    }
+}
+
 /// `get NAME DOCUMENT`: the member of this name.
 pub(crate) fn member(arguments: &mut Arguments<'_>, answer: &mut Answer) {
     let name = arguments.text();
@@ -50,6 +42,14 @@ pub(crate) fn member(arguments: &mut Arguments<'_>, answer: &mut Answer) {
         document.view().get(name.as_str()),
     );
     drop(document);
+}
+
+/// Adds the compact text of a tree, `none` where there is none.
+fn add_found(alloc: Global, answer: &mut Answer, found: Option<Json<'_, '_>>) {
+    match found {
+        Some(json) => add_tree(alloc, answer, json),
+        None => answer.value(&"none"),
+    }
 }
 
 /// `item PLACE DOCUMENT`: the element at this place, counted from 0.

@@ -10,6 +10,17 @@ use sig_rekor_models::{
 };
 use std::alloc::Global;
 
+/// `log_info ROOT SIZE CHECKPOINT ID SHARDS`: what `LogInfo::try_from_rekor` reads; without the last two the head has
+/// no identifier and no list of shards.
+pub(crate) fn log_info(arguments: &mut Arguments<'_>, answer: &mut Answer) {
+    let mut api = head(arguments);
+    if !arguments.is_empty() {
+        api.tree_id = Some(text(arguments));
+        api.inactive_shards = Some(shards(arguments, answer));
+    }
+    answer_to(answer, LogInfo::try_from_rekor(api));
+}
+
 /// The head of the next arguments, `ROOT SIZE CHECKPOINT`.
 fn head(arguments: &mut Arguments<'_>) -> RekorLogInfo {
     RekorLogInfo {
@@ -39,17 +50,6 @@ fn shards(arguments: &mut Arguments<'_>, answer: &mut Answer) -> Shards {
     shards
 }
 
-/// `log_info ROOT SIZE CHECKPOINT ID SHARDS`: what `LogInfo::try_from_rekor` reads; without the last two the head has
-/// no identifier and no list of shards.
-pub(crate) fn log_info(arguments: &mut Arguments<'_>, answer: &mut Answer) {
-    let mut api = head(arguments);
-    if !arguments.is_empty() {
-        api.tree_id = Some(text(arguments));
-        api.inactive_shards = Some(shards(arguments, answer));
-    }
-    answer_to(answer, LogInfo::try_from_rekor(api));
-}
-
 /// The root, the size, the checkpoint, the identifier and the shards.
 impl Shown for LogInfo {
     fn add_to(&self, answer: &mut Answer) {
@@ -75,19 +75,19 @@ impl Shown for Shards {
     }
 }
 
+/// `consistency_from_rekor ROOT HASHES`: what `ConsistencyProof::try_from_rekor` reads.
+pub(crate) fn consistency_proof(arguments: &mut Arguments<'_>, answer: &mut Answer) {
+    let api = api_proof(arguments);
+    let read = ConsistencyProof::try_from_rekor(arguments.alloc(), &api);
+    answer_to(answer, read);
+}
+
 /// The proof of the next arguments, `ROOT HASHES`.
 fn api_proof(arguments: &mut Arguments<'_>) -> RekorConsistencyProof {
     RekorConsistencyProof {
         root_hash: text(arguments),
         hashes: arguments.entries(),
     }
-}
-
-/// `consistency_from_rekor ROOT HASHES`: what `ConsistencyProof::try_from_rekor` reads.
-pub(crate) fn consistency_proof(arguments: &mut Arguments<'_>, answer: &mut Answer) {
-    let api = api_proof(arguments);
-    let read = ConsistencyProof::try_from_rekor(arguments.alloc(), &api);
-    answer_to(answer, read);
 }
 
 /// The root, and each hash.

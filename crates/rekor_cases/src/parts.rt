@@ -11,17 +11,6 @@ pub(crate) fn text(arguments: &mut Arguments<'_>) -> Text {
     Text::from(arguments.text())
 }
 
-/// What was made; where memory ran out, the empty value.
-pub(crate) fn made<T: Drop, E: Drop>(answer: &mut Answer, outcome: Result<T, E>, empty: T) -> T {
-    match outcome {
-        Ok(value) => value,
-        Err(_) => {
-            answer.out_of_memory();
-            empty
-        }
-    }
-}
-
 /// The key of the cases that name none.
 pub(crate) const KEY: &[u8] = b"key";
 
@@ -69,4 +58,15 @@ fn copied(alloc: Global, answer: &mut Answer, bytes: &[u8]) -> Bytes {
         Bytes::copy_of(alloc, bytes),
         Bytes::from(Vec::new(alloc)),
     )
+}
+
+/// What was made; where memory ran out, the empty value.
+pub(crate) fn made<T: Drop, E: Drop>(answer: &mut Answer, outcome: Result<T, E>, empty: T) -> T {
+    match outcome {
+        Ok(value) => value,
+        Err(_) => {
+            answer.out_of_memory();
+            empty
+        }
+    }
 }

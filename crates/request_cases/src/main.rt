@@ -35,18 +35,6 @@ impl Cases for RequestCases {
     }
 }
 
-/// The key of the next argument. Refuses the line if it is none.
-fn key(arguments: &mut Arguments<'_>) -> CosignVerificationKey {
-    match CosignVerificationKey::try_from_spki(arguments.alloc(), &arguments.hex()) {
-        Ok(key) => key,
-        Err(error) => {
-            drop(error);
-            arguments.refuse();
-            CosignVerificationKey::ED25519(Bytes::from(Vec::new(arguments.alloc())))
-        }
-    }
-}
-
 /// `envelope SPKI TYPE PAYLOAD SIGNATURE ROW ..`: whether the envelope's signature is the key's.
 fn envelope(arguments: &mut Arguments<'_>, answer: &mut Answer) {
     let alloc = arguments.alloc();
@@ -61,6 +49,18 @@ fn envelope(arguments: &mut Arguments<'_>, answer: &mut Answer) {
     }
     drop(checker);
     drop(key);
+}
+
+/// The key of the next argument. Refuses the line if it is none.
+fn key(arguments: &mut Arguments<'_>) -> CosignVerificationKey {
+    match CosignVerificationKey::try_from_spki(arguments.alloc(), &arguments.hex()) {
+        Ok(key) => key,
+        Err(error) => {
+            drop(error);
+            arguments.refuse();
+            CosignVerificationKey::ED25519(Bytes::from(Vec::new(arguments.alloc())))
+        }
+    }
 }
 
 /// `promise SPKI JSON SIGNATURE ROW ..`: whether the signature over the canonical form of the JSON text is the key's.

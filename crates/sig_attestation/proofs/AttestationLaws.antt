@@ -16,7 +16,7 @@ use Rattle.sig_payload.specs.Bundles.{readable}
 use Rattle.sig_verify.proofs.EntryProofs.{ProofLaws}
 use Rattle.sig_attestation.proofs.EvidenceCauses.{evidence_tells}
 use Rattle.sig_attestation.proofs.ImageCauses.{image_tells}
-use Rattle.sig_attestation.proofs.Telling.{Tells, tells_made, tells_then}
+use Rattle.sig_attestation.proofs.StepOutcomes.{Tells, tells_made, tells_then}
 use Rattle.sig_attestation.specs.Attestation.{attestation_answer, attestation_of, attested, evidence_answer}
 use Rattle.sig_attestation.specs.Causes.{Asked, IsAttestation, IsEvidenceFault, IsEvidenceOf, IsFault, IsImageFault}
 use Rattle.sig_attestation.specs.Causes.{IsImageOf, OfEnvelope, Told}

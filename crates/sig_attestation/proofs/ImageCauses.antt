@@ -15,10 +15,10 @@ use Rattle.sig_dsse.specs.CosignStatement.{cosign_fault, first_sha256, sha256_or
 use Rattle.sig_dsse.specs.Faults.{FirstHasSha256, IsCosignCauseOf, IsCosignStatement}
 use Rattle.sig_dsse.specs.Statement.{Statement, Subject, statement_of}
 use Rattle.sig_dsse.specs.declared.envelope.DsseEnvelope.{DsseEnvelope}
-use Rattle.sig_rekor.proofs.Cutting.{after_separator-at, after_separator-some}
-use Rattle.sig_rekor.specs.Cut.{after_separator}
-use Rattle.sig_attestation.proofs.Telling.{Tells, tells_done, tells_ends, tells_some, tells_sure, tells_test}
-use Rattle.sig_attestation.proofs.Telling.{tells_then}
+use Rattle.sig_rekor.proofs.CutLaws.{after_separator-at, after_separator-some}
+use Rattle.sig_rekor.specs.TextCuts.{after_separator}
+use Rattle.sig_attestation.proofs.StepOutcomes.{Tells, tells_done, tells_ends, tells_some, tells_sure, tells_test}
+use Rattle.sig_attestation.proofs.StepOutcomes.{tells_then}
 use Rattle.sig_attestation.specs.Causes.{IsDigest, IsImageFault, IsImageOf, IsStatedFault, IsTyped, OfSha256, Told}
 use Rattle.sig_attestation.specs.Image.{image_answer, of_source, stated_image, statement_type, typed, without_prefix}
 

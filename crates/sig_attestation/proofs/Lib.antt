@@ -2,9 +2,9 @@ mod AttestationLaws
 mod Bodies
 mod EvidenceCauses
 mod ImageCauses
-mod Kept
+mod StatementParts
 mod LogFaults
 mod LogRefusals
 mod LoggedOnce
 mod SaidImages
-mod Telling
+mod StepOutcomes

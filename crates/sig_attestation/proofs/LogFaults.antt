@@ -23,7 +23,7 @@ use Rattle.sig_verify.specs.OfflineErrors.{of_fields, of_proof}
 use Rattle.sig_verify.specs.declared.logged_entry.LoggedEntry.{LoggedEntry}
 use Rattle.sig_verify.specs.declared.offline_error.OfflineError.{OfflineError}
 use Rattle.sig_verify.specs.declared.offline_error.OfflineError.TheVariants as error
-use Rattle.sig_attestation.proofs.Telling.{Tells, retold, tells_done, tells_ends, tells_then}
+use Rattle.sig_attestation.proofs.StepOutcomes.{Tells, retold, tells_done, tells_ends, tells_then}
 use Rattle.sig_attestation.specs.LogCauses.{IsInclusionFault, IsLogFault, IsPromised, IsPromiseFault}
 use Rattle.sig_attestation.specs.LogCauses.{IsVouched, OfRead, OfText}
 

@@ -10,7 +10,7 @@ use Rattle.sig_bundle.specs.declared.bundle.Content.TheVariants as content
 use Rattle.sig_dsse.specs.CosignStatement.{cosign_fault, sha256_or_fault, statement_or_fault, unless_fault}
 use Rattle.sig_dsse.specs.Statement.{Statement}
 use Rattle.sig_dsse.specs.declared.envelope.DsseEnvelope.{DsseEnvelope}
-use Rattle.sig_rekor.specs.Cut.{after_separator}
+use Rattle.sig_rekor.specs.TextCuts.{after_separator}
 use Rattle.sig_attestation.specs.declared.image.Image.{Image}
 
 abbrev pub envelope_in : Option Content → Result DsseEnvelope SigstoreError

@@ -1,6 +1,6 @@
 pub mod Attestation
 pub mod Body
-pub mod Borrowed
+pub mod BorrowedResults
 pub mod Causes
 pub mod Image
 pub mod LogCauses

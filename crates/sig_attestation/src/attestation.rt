@@ -29,11 +29,11 @@ pub struct Attestation {
     pub sha256: Text,
     /// What the signature is over: the envelope's pre-authentication encoding (DSSE protocol).
     pub signed: Bytes,
-    /// The signature.
+    /// The envelope's one signature, in base64.
     pub signature: Text,
     /// The certificate (DER).
     pub certificate: Bytes,
-    /// The log's entry.
+    /// The bundle's one log entry, which the log vouches for.
     pub entry: TransparencyLogEntry,
 }
 

@@ -84,88 +84,6 @@ impl ElementReader for SpelledBodyReader {
     }
 }
 
-/// Whether a text is the SHA-256 of the bytes in lower-case hexadecimal. Fails only if out of memory.
-fn is_lower_hash(alloc: Global, text: &Text, bytes: &[u8]) -> std::result::Result<bool, OutOfMemory>
-    ensures { IfOk result (λ is. is ≡ is_lower_hash text.now bytes.now) }
-{
-    let digits = Text::from(hex::encode(alloc, &sha256(bytes))?);
-    let is_lower = text.as_str() == digits.as_str();
-    drop(digits);
-    Ok(is_lower)
-}
-
-/// Whether these are the hashes of both, in lower-case hexadecimal. Fails only if out of memory.
-fn are_lower(
-    alloc: Global,
-    spelled: &Spelled,
-    envelope: &[u8],
-    payload: &[u8],
-) -> std::result::Result<bool, OutOfMemory>
-    ensures { IfOk result (λ are. are ≡ are_lower envelope.now payload.now spelled.now) }
-{
-    if is_lower_hash(alloc, &spelled.envelope, envelope)? {
-        is_lower_hash(alloc, &spelled.payload, payload)
-    } else {
-        Ok(false)
-    }
-}
-
-/// Whether the body has one signature, and the hashes of both in lower-case hexadecimal. Fails only if out of memory.
-fn is_spelled(
-    alloc: Global,
-    envelope: &[u8],
-    payload: &[u8],
-    body: &[u8],
-) -> std::result::Result<bool, OutOfMemory>
-    ensures { IfOk result (λ is. is ≡ is_spelled envelope.now payload.now (record_in spelled_of body.now)) }
-{
-    match read_record::<SpelledBodyReader>(alloc, body) {
-        Ok(spelled) => {
-            let are = are_lower(alloc, &spelled, envelope, payload);
-            drop(spelled);
-            are
-        }
-        Err(JsonError::OutOfMemory) => Err(OutOfMemory),
-        Err(_) => Ok(false),
-    }
-}
-
-/// Whether the body is about the envelope of this text and payload, with this signature, which the certificate of this
-/// DER verifies. Fails only if out of memory.
-fn is_about(
-    alloc: Global,
-    envelope: &[u8],
-    payload: &[u8],
-    signature: &[u8],
-    certificate: &[u8],
-    body: &[u8],
-) -> std::result::Result<bool, OutOfMemory>
-    ensures { IfOk result (λ about. about
-        ≡ is_about envelope.now payload.now signature.now certificate.now (record_in dsse_body_of body.now)) }
-{
-    is_about_envelope(alloc, envelope, payload, signature, certificate, body)
-}
-
-/// The same, and it has one signature and spells its hashes in lower-case hexadecimal. Fails only if out of memory.
-#[tactic(auto, unfolding(crate::specs::Body::is_logged_once))]
-fn is_logged_once(
-    alloc: Global,
-    envelope: &[u8],
-    payload: &[u8],
-    signature: &[u8],
-    certificate: &[u8],
-    body: &[u8],
-) -> std::result::Result<bool, OutOfMemory>
-    ensures { IfOk result (λ logged. logged
-        ≡ is_logged_once envelope.now payload.now signature.now certificate.now body.now) }
-{
-    if is_about(alloc, envelope, payload, signature, certificate, body)? {
-        is_spelled(alloc, envelope, payload, body)
-    } else {
-        Ok(false)
-    }
-}
-
 /// Fails with `Body` unless the entry's body is about the envelope and this signature, which the certificate of this
 /// DER verifies, with exactly one signature and hashes in lower-case hexadecimal.
 pub(crate) fn check_body(
@@ -193,4 +111,86 @@ pub(crate) fn check_body(
         Ok(false) => Err(unexpected(UnexpectedKind::Body)),
         Err(_) => Err(SigstoreError::OutOfMemory),
     }
+}
+
+/// The same, and it has one signature and spells its hashes in lower-case hexadecimal. Fails only if out of memory.
+#[tactic(auto, unfolding(crate::specs::Body::is_logged_once))]
+fn is_logged_once(
+    alloc: Global,
+    envelope: &[u8],
+    payload: &[u8],
+    signature: &[u8],
+    certificate: &[u8],
+    body: &[u8],
+) -> std::result::Result<bool, OutOfMemory>
+    ensures { IfOk result (λ logged. logged
+        ≡ is_logged_once envelope.now payload.now signature.now certificate.now body.now) }
+{
+    if is_about(alloc, envelope, payload, signature, certificate, body)? {
+        is_spelled(alloc, envelope, payload, body)
+    } else {
+        Ok(false)
+    }
+}
+
+/// Whether the body is about the envelope of this text and payload, with this signature, which the certificate of this
+/// DER verifies. Fails only if out of memory.
+fn is_about(
+    alloc: Global,
+    envelope: &[u8],
+    payload: &[u8],
+    signature: &[u8],
+    certificate: &[u8],
+    body: &[u8],
+) -> std::result::Result<bool, OutOfMemory>
+    ensures { IfOk result (λ about. about
+        ≡ is_about envelope.now payload.now signature.now certificate.now (record_in dsse_body_of body.now)) }
+{
+    is_about_envelope(alloc, envelope, payload, signature, certificate, body)
+}
+
+/// Whether the body has one signature, and the hashes of both in lower-case hexadecimal. Fails only if out of memory.
+fn is_spelled(
+    alloc: Global,
+    envelope: &[u8],
+    payload: &[u8],
+    body: &[u8],
+) -> std::result::Result<bool, OutOfMemory>
+    ensures { IfOk result (λ is. is ≡ is_spelled envelope.now payload.now (record_in spelled_of body.now)) }
+{
+    match read_record::<SpelledBodyReader>(alloc, body) {
+        Ok(spelled) => {
+            let are = are_lower(alloc, &spelled, envelope, payload);
+            drop(spelled);
+            are
+        }
+        Err(JsonError::OutOfMemory) => Err(OutOfMemory),
+        Err(_) => Ok(false),
+    }
+}
+
+/// Whether these are the hashes of both, in lower-case hexadecimal. Fails only if out of memory.
+fn are_lower(
+    alloc: Global,
+    spelled: &Spelled,
+    envelope: &[u8],
+    payload: &[u8],
+) -> std::result::Result<bool, OutOfMemory>
+    ensures { IfOk result (λ are. are ≡ are_lower envelope.now payload.now spelled.now) }
+{
+    if is_lower_hash(alloc, &spelled.envelope, envelope)? {
+        is_lower_hash(alloc, &spelled.payload, payload)
+    } else {
+        Ok(false)
+    }
+}
+
+/// Whether a text is the SHA-256 of the bytes in lower-case hexadecimal. Fails only if out of memory.
+fn is_lower_hash(alloc: Global, text: &Text, bytes: &[u8]) -> std::result::Result<bool, OutOfMemory>
+    ensures { IfOk result (λ is. is ≡ is_lower_hash text.now bytes.now) }
+{
+    let digits = Text::from(hex::encode(alloc, &sha256(bytes))?);
+    let is_lower = text.as_str() == digits.as_str();
+    drop(digits);
+    Ok(is_lower)
 }

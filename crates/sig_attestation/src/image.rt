@@ -1,9 +1,9 @@
 //! What an envelope says of an image: a statement by `cosign`, whose first subject is the image.
 ghost use Rattle.std.specs.Prelude.{◌≡◌, codes, option_map};
 ghost use Rattle.sig_base.specs.Answers.{Answers};
-ghost use Rattle.sig_rekor.specs.Cut.{after_separator};
+ghost use Rattle.sig_rekor.specs.TextCuts.{after_separator};
 ghost use Rattle.sig_attestation.specs.Image.{envelope_in, image_answer, of_source, typed, without_prefix};
-ghost use Rattle.sig_attestation.specs.Borrowed.{borrowed_now};
+ghost use Rattle.sig_attestation.specs.BorrowedResults.{borrowed_now};
 ghost use Rattle.sig_attestation.specs.Stated.{first_said, image_in, said_image, types_said};
 
 use crate::refusal::unexpected;
@@ -24,7 +24,6 @@ const COSIGN_SIGN_V1: &str = "https://sigstore.dev/cosign/sign/v1";
 /// What a statement says of an image.
 #[derive(Drop)]
 pub(crate) struct Image {
-    /// The type of the predicate.
     pub(crate) predicate_type: Text,
     /// The SHA-256 of the image's manifest, as the first subject has it.
     pub(crate) sha256: Text,
@@ -52,17 +51,6 @@ pub(crate) fn image_of(alloc: Global, envelope: &DsseEnvelope, source: &str) -> 
     image_in(alloc, envelope.payload.as_slice(), source)
 }
 
-/// What the payload says of it, as its statement says it.
-#[tactic(auto, using(crate::proofs::SaidImages::of_payload))]
-fn image_in(alloc: Global, payload: &[u8], source: &str) -> Result<Image>
-    ensures { Answers SigstoreError.OutOfMemory (λ image. image) result (image_in source.now payload.now) }
-{
-    let said = read_stated(alloc, payload)?;
-    let image = said_image(alloc, &said, source);
-    drop(said);
-    image
-}
-
 /// Fails with `PayloadType` unless the payload is of the type of statements.
 fn check_type(envelope: &DsseEnvelope) -> Result<()>
     ensures { result ≡ typed envelope.now }
@@ -72,6 +60,17 @@ fn check_type(envelope: &DsseEnvelope) -> Result<()>
     } else {
         Err(unexpected(UnexpectedKind::PayloadType))
     }
+}
+
+/// What the payload says of it, as its statement says it.
+#[tactic(auto, using(crate::proofs::SaidImages::of_payload))]
+fn image_in(alloc: Global, payload: &[u8], source: &str) -> Result<Image>
+    ensures { Answers SigstoreError.OutOfMemory (λ image. image) result (image_in source.now payload.now) }
+{
+    let said = read_stated(alloc, payload)?;
+    let image = said_image(alloc, &said, source);
+    drop(said);
+    image
 }
 
 /// What the statement says of the image whose manifest has this digest.

@@ -66,8 +66,8 @@ fn check_vouched<C: SignatureChecker>(
         (vouched_under (key_accepts (C.spki_accepts checker.now) key.now) entry.now) }
 {
     match vouched(alloc, entry, key, checker) {
-        Ok(offline) => {
-            drop(offline);
+        Ok(logged) => {
+            drop(logged);
             Ok(())
         }
         Err(error) => Err(log_refusal(error)),

@@ -1,7 +1,7 @@
 //! What a bundle brings beside its envelope: one signature, one certificate and one log entry.
 ghost use Rattle.std.specs.Prelude.{◌≡◌};
 ghost use Rattle.sig_attestation.specs.Material.{certificate_in, entry_in, material_in, signature_in};
-ghost use Rattle.sig_attestation.specs.Borrowed.{borrowed_now};
+ghost use Rattle.sig_attestation.specs.BorrowedResults.{borrowed_now};
 
 use crate::refusal::unexpected;
 use sig_base::{Bytes, Result, UnexpectedKind};

@@ -6,13 +6,6 @@ ghost use Rattle.sig_attestation.specs.Vouching.{IsLogRefusal, log_refusal};
 use sig_base::{SigstoreError, UnexpectedKind};
 use sig_verify::OfflineError;
 
-/// The error for what is not as it has to be.
-pub(crate) fn unexpected(kind: UnexpectedKind) -> SigstoreError
-    ensures { result ≡ UnexpectedError kind }
-{
-    SigstoreError::UnexpectedError(kind)
-}
-
 /// The error for an entry that a log does not vouch for; there are no others than these.
 pub(crate) fn log_refusal(error: OfflineError) -> SigstoreError
     requires { IsLogRefusal error }
@@ -36,4 +29,11 @@ pub(crate) fn log_refusal(error: OfflineError) -> SigstoreError
         OfflineError::OutOfMemory => SigstoreError::OutOfMemory,
         _ => unreachable!(),
     }
+}
+
+/// The error for what is not as it has to be.
+pub(crate) fn unexpected(kind: UnexpectedKind) -> SigstoreError
+    ensures { result ≡ UnexpectedError kind }
+{
+    SigstoreError::UnexpectedError(kind)
 }

@@ -22,7 +22,6 @@ const MEMBERS: [&str; 3] = ["_type", "subject", "predicateType"];
 pub(crate) struct Stated {
     /// Which version of statements it is.
     pub(crate) statement_type: Text,
-    /// The type of its predicate.
     pub(crate) predicate_type: Text,
     /// The SHA-256 of each subject, `None` where it has none.
     pub(crate) sha256s: OwnedList<Option<Text>>,
@@ -37,7 +36,7 @@ impl ElementReader for Sha256Reader {
     ghost meaning = { sha256_in };
 
     // `annotations` may be anything, so no object is rejected for them.
-    #[tactic(auto, using(crate::proofs::Kept::of_subject))]
+    #[tactic(auto, using(crate::proofs::StatementParts::of_subject))]
     fn read(alloc: Global, json: Json<'_, '_>) -> Result<Option<Text>, MemberError> {
         let name = optional::<TextReader>(alloc, json, "name")?;
         drop(name);
@@ -67,7 +66,7 @@ impl ElementReader for StatedReader {
     ghost meaning = { stated_in };
 
     // `predicate` may be anything, so no object is rejected for it.
-    #[tactic(auto, using(crate::proofs::Kept::of_statement))]
+    #[tactic(auto, using(crate::proofs::StatementParts::of_statement))]
     fn read(alloc: Global, json: Json<'_, '_>) -> Result<Stated, MemberError> {
         let statement_type = required_text(alloc, json, "_type")?;
         let predicate_type = required_text(alloc, json, "predicateType")?;
@@ -80,8 +79,8 @@ impl ElementReader for StatedReader {
     }
 }
 
-/// What is kept of the statement that a payload is. Fails with `Statement` where it is none.
-#[tactic(auto, using(crate::proofs::Kept::of_record))]
+/// What is kept of the statement that a payload is. Fails with `Statement` where it is not one.
+#[tactic(auto, using(crate::proofs::StatementParts::of_record))]
 pub(crate) fn read_stated(alloc: Global, payload: &[u8]) -> sig_base::Result<Stated>
     ensures { Answers SigstoreError.OutOfMemory (λ said. said) result (stated_of payload.now) }
 {

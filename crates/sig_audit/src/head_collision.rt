@@ -56,7 +56,6 @@ pub(crate) fn roots_beside(
     roots_of_fronts(alloc, entries, sizes.as_slice())
 }
 
-/// The heads' sizes.
 #[tactic(auto, using(std::proofs::lemmas::List::map_more))]
 fn sizes_of(alloc: Global, heads: &[ChainHead]) -> Result<Vec<usize>, OutOfMemory>
     ensures { IfOk result (λ sizes. sizes.items ≡ sizes_in heads.now) }

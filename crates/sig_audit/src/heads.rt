@@ -25,7 +25,7 @@ pub struct Watch {
     pub index: u64,
     /// The audit path of the entry (RFC 6962 section 2.1.1).
     pub hashes: Hashes,
-    /// The entry.
+    /// The entry itself, whose hash is the leaf of the log's tree.
     pub entry: Bytes,
 }
 

@@ -3,7 +3,7 @@ use Rattle.std.proofs.Common.{◌≡◌, ◌≤◌, ◌+◌, ◌∙◌, ℕ, Lis
 use Rattle.std.proofs.lemmas.Result.{IfOk-weaker}
 use Rattle.sig_audit.specs.declared.heads.AuditHead.{AuditHead}
 use Rattle.sig_base.specs.declared.memory.OutOfMemory.{OutOfMemory}
-use Rattle.sig_reply.proofs.Fitting.{wherever_put}
+use Rattle.sig_reply.proofs.FittingLists.{wherever_put}
 use Rattle.sig_reply.specs.Reply.{IsListingOf, listed, no_request, refusal_at}
 use Rattle.sig_reply.specs.RowsText.{FitsBeside, IsReadBack, rows_text}
 use Rattle.sig_reply.specs.declared.reply.Reply.{Reply}

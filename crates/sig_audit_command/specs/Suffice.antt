@@ -1,5 +1,5 @@
--- Nothing else matters: of the accepted signatures of a request those decide its reply that `questions audit` lists; and
--- a list that is written fits one request with the request that it is of.
+-- Nothing else matters: of the accepted signatures of a request those alone decide its reply that the heads ask for,
+-- also where no list was written; and a list that is written fits one request with the request that it is of.
 use Rattle.std.specs.Prelude.{◌≡◌, ◌≤◌, ◌↔◌, ℕ, List, ◌++◌, Contains, length}
 use Rattle.sig_audit.specs.declared.heads.AuditHead.{AuditHead}
 use Rattle.sig_base.specs.declared.checker.AcceptedRow.{AcceptedRow}
@@ -25,14 +25,15 @@ audit_with_accepted request rows = record {
   entries = request.entries;
 }
 
--- the request's accepted signatures and these have the same of those that `questions audit` lists
+-- the request's accepted signatures and these have the same of those that the heads ask for, also where no list was
+-- written
 abbrev pub AgreeOnHeads : AuditRequest → List AcceptedRow → Type 0
 AgreeOnHeads request rows =
     (heads : List AuditHead) → AreHeads request.heads heads → (row : AcceptedRow)
     → Contains (audit_rows request heads) row → Contains request.accepted row ↔ Contains rows row
 
--- Two requests of `audit` that differ in nothing but their accepted signatures, and in these in none that
--- `questions audit` lists, have the same reply.
+-- Two requests of `audit` that differ in nothing but their accepted signatures, and in these in none that the heads ask
+-- for, have the same reply, also where no list was written.
 abbrev pub AuditQuestionsSuffice : Type 0
 AuditQuestionsSuffice =
     (text other : List ℕ) (request : AuditRequest) (rows : List AcceptedRow)

@@ -5,7 +5,7 @@ use Rattle.std.proofs.lemmas.List.{take_at, length-append}
 use Rattle.sig_base.proofs.OptionSteps.{bind_is, bind_of_some, some, some_is}
 use Rattle.sig_der.specs.Element.{IsElement}
 use Rattle.sig_der.specs.Reading.{Piece}
-use Rattle.sig_der.specs.Taking.{take_tag, take_whole, begins_with, many_at}
+use Rattle.sig_der.specs.FrontReaders.{take_tag, take_whole, begins_with, many_at}
 use Rattle.sig_der.specs.KeyInfo.{algorithm_at, bits_of}
 use Rattle.sig_der.proofs.Bytes.{IsBytes}
 use Rattle.sig_der.proofs.Takings.{take_tag_takes, take_tag_again, take_whole_takes, take_whole_again}

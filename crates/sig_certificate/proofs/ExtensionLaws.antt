@@ -5,7 +5,7 @@ use Rattle.std.proofs.lemmas.Bool.{cases_Bool, eqb-true, cond-true, cond-false}
 use Rattle.sig_base.proofs.OptionSteps.{bind_is, bind_of_some, when_is, unless_is, some_is}
 use Rattle.sig_der.specs.Element.{IsElement}
 use Rattle.sig_der.specs.Reading.{Piece}
-use Rattle.sig_der.specs.Taking.{take_tag, take_whole, take_optional, begins_with}
+use Rattle.sig_der.specs.FrontReaders.{take_tag, take_whole, take_optional, begins_with}
 use Rattle.sig_der.proofs.Bytes.{IsBytes, IsBytes-right}
 use Rattle.sig_der.proofs.Takings.{take_tag_takes, take_tag_again, take_tag_shrinks, take_whole_takes}
 use Rattle.sig_der.proofs.Takings.{take_whole_again, take_optional_takes, take_optional_here, take_optional_absent}

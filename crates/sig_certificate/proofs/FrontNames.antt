@@ -3,7 +3,7 @@ use Rattle.std.proofs.Common.{◌≡◌, ℕ, zero, suc, ◌≤◌, true, false,
 use Rattle.std.proofs.Common.{sym, ap, ◌∙◌, arith}
 use Rattle.std.specs.Prelude.{is_some}
 use Rattle.sig_base.proofs.OptionSteps.{bind_is, some_is}
-use Rattle.sig_der.specs.Taking.{many_within, many_at}
+use Rattle.sig_der.specs.FrontReaders.{many_within, many_at}
 use Rattle.sig_certificate.specs.Names.{Name, name_at}
 use Rattle.sig_certificate.specs.BorrowedNames.{then_names, front_names_within, front_names}
 use Rattle.sig_certificate.proofs.WalkLaws.{name_at_shrinks}

@@ -7,7 +7,7 @@ use Rattle.sig_base.specs.OptionSteps.{◌>>=◌}
 use Rattle.sig_base.proofs.OptionSteps.{bind_is, bind_of_some, when_is, unless_is, some, some_is}
 use Rattle.sig_der.specs.Element.{IsElement}
 use Rattle.sig_der.specs.Reading.{Piece}
-use Rattle.sig_der.specs.Taking.{take_tag, take_whole, take_optional, begins_with}
+use Rattle.sig_der.specs.FrontReaders.{take_tag, take_whole, take_optional, begins_with}
 use Rattle.sig_der.specs.KeyInfo.{Algorithm, algorithm_at}
 use Rattle.sig_der.proofs.Bytes.{IsBytes, IsBytes-left, IsBytes-right}
 use Rattle.sig_der.proofs.Takings.{take_tag_takes, take_tag_again, take_whole_takes, take_whole_again}

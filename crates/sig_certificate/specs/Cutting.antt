@@ -5,7 +5,7 @@ use Rattle.std.specs.Prelude.{◌≡◌, ℕ, ◌+◌, ◌-◌, ℤ, List, [], �
 use Rattle.std.specs.Prelude.{nat_lt, ◌==◌, if◌then◌else◌}
 use Rattle.sig_base.specs.OptionSteps.{◌>>=◌}
 use Rattle.sig_der.specs.Reading.{Piece}
-use Rattle.sig_der.specs.Taking.{take_any, take_tag, take_whole, take_optional}
+use Rattle.sig_der.specs.FrontReaders.{take_any, take_tag, take_whole, take_optional}
 use Rattle.sig_der.specs.KeyInfo.{is_empty, algorithm_at, bits_of, key_info_at}
 use Rattle.sig_certificate.specs.Certificate.{Extension, Cert}
 use Rattle.sig_der.specs.DerTime.{IsTimeOf}

@@ -3,7 +3,7 @@ pub mod Certificates
 pub mod Cutting
 pub mod Places
 pub mod Answers
-pub mod Held
+pub mod HeldCertificate
 pub mod Lookups
 pub mod Values
 pub mod ExtensionValues

@@ -2,7 +2,7 @@
 use Rattle.std.specs.Prelude.{ℕ, List, Bool, ◌&&◌, ◌||◌, Option, Some, None, nat_lt, ◌==◌, if◌then◌else◌}
 use Rattle.std.specs.List.{list_all}
 use Rattle.sig_base.specs.OptionSteps.{◌>>=◌}
-use Rattle.sig_der.specs.Taking.{take_any, take_tag, take_whole, many_at}
+use Rattle.sig_der.specs.FrontReaders.{take_any, take_tag, take_whole, many_at}
 use Rattle.sig_der.specs.KeyInfo.{is_empty}
 use Rattle.sig_der.specs.Tag.{OBJECT_IDENTIFIER, OTHER_NAME, OTHER_NAME_VALUE, RFC822_NAME, SEQUENCE}
 use Rattle.sig_der.specs.Tag.{UNIFORM_RESOURCE_IDENTIFIER}

@@ -6,7 +6,7 @@ use Rattle.std.specs.Str.{bytes_eq}
 use Rattle.std.specs.List.{list_any}
 use Rattle.sig_base.specs.OptionSteps.{◌>>=◌}
 use Rattle.sig_der.specs.Reading.{Piece}
-use Rattle.sig_der.specs.Taking.{take_tag, take_whole, take_optional, many_at}
+use Rattle.sig_der.specs.FrontReaders.{take_tag, take_whole, take_optional, many_at}
 use Rattle.sig_der.specs.KeyInfo.{is_empty}
 use Rattle.sig_certificate.specs.declared.values.KeyUsage.{KeyUsage}
 use Rattle.sig_certificate.specs.declared.values.BasicConstraints.{BasicConstraints}

@@ -35,7 +35,7 @@ impl Model for Certificate {
     ghost Value = { Cert };
 
     ghost use Rattle.sig_certificate.specs.Places.{placed_certificate};
-    ghost use Rattle.sig_certificate.specs.Held.{HoldsCertificate};
+    ghost use Rattle.sig_certificate.specs.HeldCertificate.{HoldsCertificate};
 
     ghost view = { λ c. placed_certificate c.der.items c.places c.not_before c.not_after c.extensions.places.items };
 
@@ -69,7 +69,7 @@ impl Certificate {
             at: list.start,
             end: list.end,
         };
-        // No `?`: what the error says of the bytes is a fact of this arm.
+        // A `match`, not `?`: the proof needs what the error says of the bytes.
         match read_extension_list(alloc, list) {
             Err(e) => Err(e),
             Ok(extensions) => Ok(Certificate {

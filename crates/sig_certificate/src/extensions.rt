@@ -24,34 +24,6 @@ pub(crate) struct ExtensionPlaces {
     pub(crate) whole: Span,
 }
 
-/// The value of a BOOLEAN of this content: 00 is false, FF is true.
-#[tactic(auto, unfolding(crate::specs::Cutting::boolean_of))]
-fn boolean(content: &[u8]) -> Option<bool>
-    ensures { result ≡ boolean_of content.now }
-{
-    match content {
-        [0] => Some(false),
-        [255] => Some(true),
-        _ => None,
-    }
-}
-
-/// Reads a BOOLEAN DEFAULT FALSE. `None` if a BOOLEAN is next that has another value than 00 or FF.
-#[tactic(auto, unfolding(crate::specs::Cutting::flag_at))]
-pub(crate) fn read_flag(reader: Reader<'_>) -> Option<(bool, Reader<'_>)>
-    ensures cut { flag_at (left reader.entry) ≡ option_map value_read result }
-    ensures within { IfSome result (λ x. GoesTo reader.entry x.1) }
-{
-    let (place, rest) = reader.optional(tag::BOOLEAN)?;
-    match place {
-        None => Some((false, rest)),
-        Some(place) => {
-            let flag = boolean(reader.content(place))?;
-            Some((flag, rest))
-        }
-    }
-}
-
 /// Reads the extension that is next. `None` if what is left begins with none.
 #[tactic(auto, unfolding(crate::specs::Cutting::extension_at))]
 pub(crate) fn read_extension(reader: Reader<'_>) -> Option<(ExtensionPlaces, Reader<'_>)>
@@ -75,4 +47,32 @@ pub(crate) fn read_extension(reader: Reader<'_>) -> Option<(ExtensionPlaces, Rea
         whole: whole_of(whole),
     };
     Some((places, rest))
+}
+
+/// Reads a BOOLEAN DEFAULT FALSE. `None` if a BOOLEAN is next that has another value than 00 or FF.
+#[tactic(auto, unfolding(crate::specs::Cutting::flag_at))]
+pub(crate) fn read_flag(reader: Reader<'_>) -> Option<(bool, Reader<'_>)>
+    ensures cut { flag_at (left reader.entry) ≡ option_map value_read result }
+    ensures within { IfSome result (λ x. GoesTo reader.entry x.1) }
+{
+    let (place, rest) = reader.optional(tag::BOOLEAN)?;
+    match place {
+        None => Some((false, rest)),
+        Some(place) => {
+            let flag = boolean(reader.content(place))?;
+            Some((flag, rest))
+        }
+    }
+}
+
+/// The value of a BOOLEAN of this content: 00 is false, FF is true.
+#[tactic(auto, unfolding(crate::specs::Cutting::boolean_of))]
+fn boolean(content: &[u8]) -> Option<bool>
+    ensures { result ≡ boolean_of content.now }
+{
+    match content {
+        [0] => Some(false),
+        [255] => Some(true),
+        _ => None,
+    }
 }

@@ -30,43 +30,14 @@ pub enum GeneralName<'a> {
     Unread,
 }
 
-fn is_context(tag: u8) -> bool
-    ensures { result ≡ is_context tag }
+/// Returns the name at the front of the bytes, and what follows it. `None` if the bytes do not begin with a name.
+#[tactic(auto, unfolding(crate::specs::Names::name_at))]
+pub(crate) fn name_at(bytes: &[u8]) -> Option<(GeneralName<'_>, &[u8])>
+    ensures { name_at bytes.now ≡ option_map (λ x. (borrowed_name x.0, x.1.now)) result }
 {
-    (tag > 127 && tag < 137) || (tag > 159 && tag < 169)
-}
-
-fn is_ascii(text: &[u8]) -> bool
-    ensures { result ≡ is_ascii_text text.now }
-{
-    text.iter().all(|b| *b < 128)
-}
-
-/// Returns the contents octets of the one element in a `[0] EXPLICIT` that the bytes are.
-#[tactic(auto, unfolding(crate::specs::Names::other_value))]
-fn other_value(bytes: &[u8]) -> Option<&[u8]>
-    ensures { other_value bytes.now ≡ option_map (λ v. v.now) result }
-{
-    let explicit = take_whole(bytes, tag::OTHER_NAME_VALUE)?;
-    let (value, rest) = take_any(explicit.content)?;
-    if rest.is_empty() {
-        Some(value.content)
-    } else {
-        None
-    }
-}
-
-/// Returns the type-id and the value of the otherName of these contents octets.
-#[tactic(auto, unfolding(crate::specs::Names::other_name))]
-fn other_name(bytes: &[u8]) -> Option<(&[u8], &[u8])>
-    ensures { other_name bytes.now ≡ option_map (λ x. (x.0.now, x.1.now)) result }
-{
-    let (oid, rest) = take_tag(bytes, tag::OBJECT_IDENTIFIER)?;
-    let value = other_value(rest)?;
-    if oid.content.is_empty() {
-        return None;
-    }
-    Some((oid.content, value))
+    let (element, rest) = take_any(bytes)?;
+    let name = general_name_of(element.tag, element.content)?;
+    Some((name, rest))
 }
 
 /// Returns the name that an element of this tag and these contents octets is. `None` if it is not a name, or a
@@ -100,12 +71,41 @@ fn general_name_of(tag: u8, content: &[u8]) -> Option<GeneralName<'_>>
     }
 }
 
-/// Returns the name at the front of the bytes, and what follows it. `None` if the bytes do not begin with a name.
-#[tactic(auto, unfolding(crate::specs::Names::name_at))]
-pub(crate) fn name_at(bytes: &[u8]) -> Option<(GeneralName<'_>, &[u8])>
-    ensures { name_at bytes.now ≡ option_map (λ x. (borrowed_name x.0, x.1.now)) result }
+fn is_ascii(text: &[u8]) -> bool
+    ensures { result ≡ is_ascii_text text.now }
 {
-    let (element, rest) = take_any(bytes)?;
-    let name = general_name_of(element.tag, element.content)?;
-    Some((name, rest))
+    text.iter().all(|b| *b < 128)
+}
+
+/// Returns the type-id and the value of the otherName of these contents octets.
+#[tactic(auto, unfolding(crate::specs::Names::other_name))]
+fn other_name(bytes: &[u8]) -> Option<(&[u8], &[u8])>
+    ensures { other_name bytes.now ≡ option_map (λ x. (x.0.now, x.1.now)) result }
+{
+    let (oid, rest) = take_tag(bytes, tag::OBJECT_IDENTIFIER)?;
+    let value = other_value(rest)?;
+    if oid.content.is_empty() {
+        return None;
+    }
+    Some((oid.content, value))
+}
+
+/// Returns the contents octets of the one element in a `[0] EXPLICIT` that the bytes are.
+#[tactic(auto, unfolding(crate::specs::Names::other_value))]
+fn other_value(bytes: &[u8]) -> Option<&[u8]>
+    ensures { other_value bytes.now ≡ option_map (λ v. v.now) result }
+{
+    let explicit = take_whole(bytes, tag::OTHER_NAME_VALUE)?;
+    let (value, rest) = take_any(explicit.content)?;
+    if rest.is_empty() {
+        Some(value.content)
+    } else {
+        None
+    }
+}
+
+fn is_context(tag: u8) -> bool
+    ensures { result ≡ is_context tag }
+{
+    (tag > 127 && tag < 137) || (tag > 159 && tag < 169)
 }

@@ -28,7 +28,7 @@ impl<'a> Iterator for AlternativeNames<'a> {
 }
 
 ghost use Rattle.std.specs.Prelude.{◌≡◌, [], ◌∷◌, MatchOption, is_some, option_map};
-ghost use Rattle.sig_der.specs.Taking.{many_at};
+ghost use Rattle.sig_der.specs.FrontReaders.{many_at};
 ghost use Rattle.sig_certificate.specs.BorrowedNames.{borrowed_name, front_names, names_left};
 ghost use Rattle.sig_certificate.specs.Names.{name_at, general_names_of};
 
@@ -45,20 +45,6 @@ fn step(rest: &[u8]) -> Option<(GeneralName<'_>, &[u8])>
     }
 }
 
-/// Whether the bytes are names one after another, and nothing else.
-fn are_names(bytes: &[u8]) -> bool
-    ensures { is_some (many_at name_at bytes.now) ≡ result }
-{
-    let mut rest = bytes;
-    while !rest.is_empty() {
-        match name_at(rest) {
-            None => return false,
-            Some((_, after)) => rest = after,
-        }
-    }
-    true
-}
-
 /// Returns the names of the subject alternative name of this value. `None` if the value is not a SEQUENCE of names and
 /// nothing else.
 #[tactic(auto, unfolding(crate::specs::Names::general_names_of), using(crate::proofs::FrontNames::are_names))]
@@ -73,4 +59,18 @@ pub fn alternative_names(value: &[u8]) -> Option<AlternativeNames<'_>>
     } else {
         None
     }
+}
+
+/// Whether the bytes are names one after another, and nothing else.
+fn are_names(bytes: &[u8]) -> bool
+    ensures { is_some (many_at name_at bytes.now) ≡ result }
+{
+    let mut rest = bytes;
+    while !rest.is_empty() {
+        match name_at(rest) {
+            None => return false,
+            Some((_, after)) => rest = after,
+        }
+    }
+    true
 }

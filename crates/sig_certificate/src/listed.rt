@@ -5,11 +5,11 @@ ghost use Rattle.std.specs.List.{All};
 ghost use Rattle.std.specs.Ordering.{nat_cmp};
 ghost use Rattle.std.specs.Cmp.Lexicographic.{slice_cmp};
 ghost use Rattle.sig_der.specs.Readers.{left};
-ghost use Rattle.sig_der.specs.Taking.{many_at};
+ghost use Rattle.sig_der.specs.FrontReaders.{many_at};
 ghost use Rattle.sig_base.specs.Answers.{Answers};
 ghost use Rattle.sig_certificate.specs.Answers.{or_der};
 ghost use Rattle.sig_certificate.specs.Cutting.{extension_at};
-ghost use Rattle.sig_certificate.specs.Held.{IsRecorded};
+ghost use Rattle.sig_certificate.specs.HeldCertificate.{IsRecorded};
 ghost use Rattle.sig_certificate.specs.Lookups.{are_single};
 ghost use Rattle.sig_certificate.specs.Places.{part, extension_of, AreSpans, Ascend};
 
@@ -29,11 +29,19 @@ pub(crate) struct Listed {
     pub(crate) single: bool,
 }
 
-/// How the object identifiers of two extensions compare, byte for byte.
-fn compared(bytes: &[u8], first: &ExtensionPlaces, second: &ExtensionPlaces) -> Ordering
-    ensures { result ≡ slice_cmp nat_cmp (part bytes.now first.now.oid) (part bytes.now second.now.oid) }
+/// Reads the extensions that are all that is left. Fails with `Der` if anything else is left, and with `OutOfMemory`.
+pub(crate) fn read_extension_list(
+    alloc: Global,
+    reader: Reader<'_>,
+) -> Result<Listed, X509ReadError>
+    ensures exact { Answers X509ReadError.OutOfMemory (λ l. map (extension_of reader.entry.bytes.now) l.places.items)
+        result (or_der (many_at extension_at (left reader.entry))) }
+    ensures within { IfOk result (λ l. All (AreSpans reader.entry.end) l.places.items) }
+    ensures recorded { IfOk result (IsRecorded reader.entry.bytes.now) }
 {
-    clipped(bytes, first.oid).cmp(clipped(bytes, second.oid))
+    let mut places = read_extensions(alloc, reader)?;
+    let single = are_single(reader.bytes, places.as_mut_slice());
+    Ok(Listed { places, single })
 }
 
 /// Whether no two have one object identifier. The list is sorted by them, so that equal ones are neighbours, and then
@@ -50,17 +58,9 @@ fn are_single(bytes: &[u8], extensions: &mut [ExtensionPlaces]) -> bool
     single
 }
 
-/// Reads the extensions that are all that is left. Fails with `Der` if anything else is left, and with `OutOfMemory`.
-pub(crate) fn read_extension_list(
-    alloc: Global,
-    reader: Reader<'_>,
-) -> Result<Listed, X509ReadError>
-    ensures exact { Answers X509ReadError.OutOfMemory (λ l. map (extension_of reader.entry.bytes.now) l.places.items)
-        result (or_der (many_at extension_at (left reader.entry))) }
-    ensures within { IfOk result (λ l. All (AreSpans reader.entry.end) l.places.items) }
-    ensures recorded { IfOk result (IsRecorded reader.entry.bytes.now) }
+/// How the object identifiers of two extensions compare, byte for byte.
+fn compared(bytes: &[u8], first: &ExtensionPlaces, second: &ExtensionPlaces) -> Ordering
+    ensures { result ≡ slice_cmp nat_cmp (part bytes.now first.now.oid) (part bytes.now second.now.oid) }
 {
-    let mut places = read_extensions(alloc, reader)?;
-    let single = are_single(reader.bytes, places.as_mut_slice());
-    Ok(Listed { places, single })
+    clipped(bytes, first.oid).cmp(clipped(bytes, second.oid))
 }

@@ -32,19 +32,6 @@ pub enum Lookup<'a> {
     Several,
 }
 
-/// Returns the extension at the offsets.
-pub(crate) fn lend<'a>(bytes: &'a [u8], places: &ExtensionPlaces) -> ExtensionRef<'a>
-    requires { AreSpans (length bytes.now) places.now }
-    ensures { borrowed_extension result ≡ extension_of bytes.now places.now }
-{
-    ExtensionRef {
-        oid: part(bytes, places.oid),
-        critical: places.critical,
-        value: part(bytes, places.value),
-        whole: part(bytes, places.whole),
-    }
-}
-
 /// Returns the extension at this index, if there are more than so many.
 pub(crate) fn lend_at<'a>(
     bytes: &'a [u8],
@@ -58,6 +45,19 @@ pub(crate) fn lend_at<'a>(
 {
     let places = extensions.get(index)?;
     Some(lend(bytes, places))
+}
+
+/// Returns the extension at the offsets.
+pub(crate) fn lend<'a>(bytes: &'a [u8], places: &ExtensionPlaces) -> ExtensionRef<'a>
+    requires { AreSpans (length bytes.now) places.now }
+    ensures { borrowed_extension result ≡ extension_of bytes.now places.now }
+{
+    ExtensionRef {
+        oid: part(bytes, places.oid),
+        critical: places.critical,
+        value: part(bytes, places.value),
+        whole: part(bytes, places.whole),
+    }
 }
 
 /// Looks up the extensions of this object identifier.

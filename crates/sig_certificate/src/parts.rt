@@ -73,7 +73,8 @@ pub(crate) struct Places {
     pub(crate) list: Span,
 }
 
-/// Reads the parts of the certificate that the bytes are, except for what its extensions are. `None` if they are none.
+/// Reads the parts of the certificate that the bytes are, except for what its extensions are. `None` if they are not
+/// one.
 pub(crate) fn parts_of(der: &[u8]) -> Option<Places>
     ensures cut { parts_at der.now ≡ option_map (parts_of der.now) result }
     ensures within { IfSome result (ArePlaces (length der.now)) }
@@ -108,7 +109,7 @@ fn read_certificate(reader: Reader<'_>) -> Option<Places>
     })
 }
 
-/// Reads the three parts of the certificate that is all that is left. `None` if it is none.
+/// Reads the three parts of the certificate that is all that is left. `None` if it is not one.
 #[tactic(auto, unfolding(crate::specs::Cutting::outer_at))]
 fn read_outer(reader: Reader<'_>) -> Option<Outer>
     ensures cut { outer_at (left reader.entry) ≡ option_map (placed_outer reader.entry.bytes.now) result }

@@ -15,24 +15,6 @@ use crate::values::{BasicConstraints, KeyUsage, read_basic_constraints, read_key
 use crate::walks::read_purpose;
 use sig_der::oid::{BASIC_CONSTRAINTS, CODE_SIGNING, EXTENDED_KEY_USAGE, KEY_USAGE};
 
-/// Returns what the key usage of the certificate says, `None` if there is none. Fails with `Malformed` if it is
-/// malformed or a duplicate extension.
-#[tactic(auto, using(crate::proofs::HeldLaws::held_laws))]
-pub(crate) fn key_usage(
-    certificate: &Certificate,
-) -> Result<Option<KeyUsage>, CertificateValidationError>
-    ensures { result ≡ usage certificate.now }
-{
-    match certificate.extension(KEY_USAGE) {
-        Lookup::Absent => Ok(None),
-        Lookup::Several => Err(CertificateValidationError::Malformed),
-        Lookup::One(extension) => match read_key_usage(extension.value) {
-            None => Err(CertificateValidationError::Malformed),
-            Some(usage) => Ok(Some(usage)),
-        },
-    }
-}
-
 /// Returns whether the basic constraints of the certificate are critical, and what they say, `None` if there are none.
 /// Fails with `Malformed` if they are malformed or a duplicate extension. For the pools of sig_x509.
 #[tactic(auto, using(crate::proofs::HeldLaws::held_laws))]
@@ -48,53 +30,6 @@ pub fn basic_constraints(
             None => Err(CertificateValidationError::Malformed),
             Some(constraints) => Ok(Some((extension.critical, constraints))),
         },
-    }
-}
-
-/// Returns whether code signing is among the purposes of the certificate's extended key usage, `None` if there is
-/// none. Fails with `Malformed` if it is malformed or a duplicate extension.
-#[tactic(auto, using(crate::proofs::HeldLaws::held_laws))]
-pub(crate) fn code_signing(
-    certificate: &Certificate,
-) -> Result<Option<bool>, CertificateValidationError>
-    ensures { result ≡ code_signing certificate.now }
-{
-    match certificate.extension(EXTENDED_KEY_USAGE) {
-        Lookup::Absent => Ok(None),
-        Lookup::Several => Err(CertificateValidationError::Malformed),
-        Lookup::One(extension) => match read_purpose(extension.value, CODE_SIGNING) {
-            None => Err(CertificateValidationError::Malformed),
-            Some(is) => Ok(Some(is)),
-        },
-    }
-}
-
-fn missing(part: PartName) -> CertificateValidationError
-    ensures { result ≡ CertificateValidationError.Extension (ExtensionErrorKind.Missing part) }
-{
-    ExtensionErrorKind::Missing(part).into()
-}
-
-/// Whether what the two extensions say makes an authority.
-fn judge_authority(
-    constraints: Result<Option<(bool, BasicConstraints)>, CertificateValidationError>,
-    usage: Result<Option<KeyUsage>, CertificateValidationError>,
-) -> Result<(), CertificateValidationError>
-    ensures { error_of result ≡ authority constraints usage }
-{
-    let Some((critical, constraints)) = constraints? else {
-        return Err(missing(PartName::BasicConstraints));
-    };
-    if !critical {
-        return Err(ExtensionErrorKind::NotCritical(PartName::BasicConstraints).into());
-    }
-    let Some(usage) = usage? else {
-        return Err(missing(PartName::KeyUsage));
-    };
-    match (constraints.ca, usage.key_cert_sign) {
-        (true, true) => Ok(()),
-        (false, false) => Err(NotCAErrorKind::NotCA.into()),
-        (ca, key_cert_sign) => Err(NotCAErrorKind::Invalid { ca, key_cert_sign }.into()),
     }
 }
 
@@ -124,6 +59,53 @@ fn judge_ca(certificate: &Certificate) -> Result<(), CertificateValidationError>
     judge_authority(basic_constraints(certificate), key_usage(certificate))
 }
 
+/// Whether what the two extensions say makes an authority.
+fn judge_authority(
+    constraints: Result<Option<(bool, BasicConstraints)>, CertificateValidationError>,
+    usage: Result<Option<KeyUsage>, CertificateValidationError>,
+) -> Result<(), CertificateValidationError>
+    ensures { error_of result ≡ authority constraints usage }
+{
+    let Some((critical, constraints)) = constraints? else {
+        return Err(missing(PartName::BasicConstraints));
+    };
+    if !critical {
+        return Err(ExtensionErrorKind::NotCritical(PartName::BasicConstraints).into());
+    }
+    let Some(usage) = usage? else {
+        return Err(missing(PartName::KeyUsage));
+    };
+    match (constraints.ca, usage.key_cert_sign) {
+        (true, true) => Ok(()),
+        (false, false) => Err(NotCAErrorKind::NotCA.into()),
+        (ca, key_cert_sign) => Err(NotCAErrorKind::Invalid { ca, key_cert_sign }.into()),
+    }
+}
+
+fn missing(part: PartName) -> CertificateValidationError
+    ensures { result ≡ CertificateValidationError.Extension (ExtensionErrorKind.Missing part) }
+{
+    ExtensionErrorKind::Missing(part).into()
+}
+
+/// Returns what the key usage of the certificate says, `None` if there is none. Fails with `Malformed` if it is
+/// malformed or a duplicate extension.
+#[tactic(auto, using(crate::proofs::HeldLaws::held_laws))]
+pub(crate) fn key_usage(
+    certificate: &Certificate,
+) -> Result<Option<KeyUsage>, CertificateValidationError>
+    ensures { result ≡ usage certificate.now }
+{
+    match certificate.extension(KEY_USAGE) {
+        Lookup::Absent => Ok(None),
+        Lookup::Several => Err(CertificateValidationError::Malformed),
+        Lookup::One(extension) => match read_key_usage(extension.value) {
+            None => Err(CertificateValidationError::Malformed),
+            Some(usage) => Ok(Some(usage)),
+        },
+    }
+}
+
 /// Whether the certificate is a root. Fails as `is_ca` does, then with `NotRootCA` if issuer and subject differ.
 pub fn is_root_ca(certificate: &Certificate) -> Result<(), CertificateValidationError>
     // It is a root.
@@ -144,32 +126,6 @@ fn judge_root(certificate: &Certificate) -> Result<(), CertificateValidationErro
         Ok(())
     } else {
         Err(NotCAErrorKind::NotRootCA.into())
-    }
-}
-
-fn bit_unset(part: PartName) -> CertificateValidationError
-    ensures { result ≡ CertificateValidationError.Extension (ExtensionErrorKind.BitUnset part) }
-{
-    ExtensionErrorKind::BitUnset(part).into()
-}
-
-/// Whether what the two extensions say lets the key sign code.
-fn judge_signer(
-    usage: Result<Option<KeyUsage>, CertificateValidationError>,
-    code_signing: Result<Option<bool>, CertificateValidationError>,
-) -> Result<(), CertificateValidationError>
-    ensures { error_of result ≡ signer usage code_signing }
-{
-    let Some(usage) = usage? else {
-        return Err(missing(PartName::KeyUsage));
-    };
-    if !usage.digital_signature {
-        return Err(bit_unset(PartName::KeyUsageDigitalSignature));
-    }
-    match code_signing? {
-        None => Err(missing(PartName::ExtendedKeyUsage)),
-        Some(true) => Ok(()),
-        Some(false) => Err(bit_unset(PartName::ExtendedKeyUsageDigitalSignature)),
     }
 }
 
@@ -199,5 +155,49 @@ fn judge_leaf(certificate: &Certificate) -> Result<(), CertificateValidationErro
     match judge_ca(certificate) {
         Ok(()) => Err(NotLeafErrorKind::IsCA.into()),
         Err(_) => judge_signer(key_usage(certificate), code_signing(certificate)),
+    }
+}
+
+/// Whether what the two extensions say lets the key sign code.
+fn judge_signer(
+    usage: Result<Option<KeyUsage>, CertificateValidationError>,
+    code_signing: Result<Option<bool>, CertificateValidationError>,
+) -> Result<(), CertificateValidationError>
+    ensures { error_of result ≡ signer usage code_signing }
+{
+    let Some(usage) = usage? else {
+        return Err(missing(PartName::KeyUsage));
+    };
+    if !usage.digital_signature {
+        return Err(bit_unset(PartName::KeyUsageDigitalSignature));
+    }
+    match code_signing? {
+        None => Err(missing(PartName::ExtendedKeyUsage)),
+        Some(true) => Ok(()),
+        Some(false) => Err(bit_unset(PartName::ExtendedKeyUsageDigitalSignature)),
+    }
+}
+
+fn bit_unset(part: PartName) -> CertificateValidationError
+    ensures { result ≡ CertificateValidationError.Extension (ExtensionErrorKind.BitUnset part) }
+{
+    ExtensionErrorKind::BitUnset(part).into()
+}
+
+/// Returns whether code signing is among the purposes of the certificate's extended key usage, `None` if there is
+/// none. Fails with `Malformed` if it is malformed or a duplicate extension.
+#[tactic(auto, using(crate::proofs::HeldLaws::held_laws))]
+pub(crate) fn code_signing(
+    certificate: &Certificate,
+) -> Result<Option<bool>, CertificateValidationError>
+    ensures { result ≡ code_signing certificate.now }
+{
+    match certificate.extension(EXTENDED_KEY_USAGE) {
+        Lookup::Absent => Ok(None),
+        Lookup::Several => Err(CertificateValidationError::Malformed),
+        Lookup::One(extension) => match read_purpose(extension.value, CODE_SIGNING) {
+            None => Err(CertificateValidationError::Malformed),
+            Some(is) => Ok(Some(is)),
+        },
     }
 }

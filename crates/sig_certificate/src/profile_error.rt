@@ -59,7 +59,7 @@ pub enum ExtensionErrorKind {
     /// It is not there.
     #[error("Missing")]
     Missing(PartName),
-    /// It is not critical.
+    /// It is there, and not marked critical (RFC 5280 section 4.2).
     #[error("NotCritical")]
     NotCritical(PartName),
     /// A bit or a purpose is not there.
@@ -70,13 +70,13 @@ pub enum ExtensionErrorKind {
 /// A part of a certificate's extensions.
 #[derive(Clone, Copy, Debug, PartialEq, Eq)]
 pub enum PartName {
-    /// Basic constraints.
+    /// The extension of RFC 5280 section 4.2.1.9.
     BasicConstraints,
-    /// Key usage.
+    /// The extension of RFC 5280 section 4.2.1.3.
     KeyUsage,
     /// The bit of key usage for digital signatures.
     KeyUsageDigitalSignature,
-    /// Extended key usage.
+    /// The extension of RFC 5280 section 4.2.1.12.
     ExtendedKeyUsage,
     /// The purpose of code signing in extended key usage, under the name that the ported crate gives it.
     ExtendedKeyUsageDigitalSignature,

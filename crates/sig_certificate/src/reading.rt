@@ -3,12 +3,12 @@
 ghost use Rattle.std.specs.Prelude.{◌≡◌, ℤ, length, map, IfOk, IfSome};
 ghost use Rattle.std.specs.List.{All};
 ghost use Rattle.sig_der.specs.Readers.{left};
-ghost use Rattle.sig_der.specs.Taking.{many_at};
+ghost use Rattle.sig_der.specs.FrontReaders.{many_at};
 ghost use Rattle.sig_base.specs.Answers.{Answers};
 ghost use Rattle.sig_certificate.specs.Answers.{or_der};
 ghost use Rattle.sig_certificate.specs.Cutting.{Parts, extension_at, HasCertificateParts};
 ghost use Rattle.sig_certificate.specs.Places.{extension_of, parts_of, AreSpans, ArePlaces, Ascend};
-ghost use Rattle.sig_certificate.specs.Held.{IsDatedAs};
+ghost use Rattle.sig_certificate.specs.HeldCertificate.{IsDatedAs};
 
 use crate::error::X509ReadError;
 use crate::extensions::{ExtensionPlaces, read_extension};
@@ -26,7 +26,7 @@ pub(crate) struct Dated {
     pub(crate) not_after: i64,
 }
 
-/// Reads the parts and the validity of the certificate that the bytes are. `None` if they are none.
+/// Reads the parts and the validity of the certificate that the bytes are. `None` if they are not one.
 pub(crate) fn dated_parts(der: &[u8]) -> Option<Dated>
     ensures found { IfSome result (λ d. HasCertificateParts der.now
         (parts_of der.now d.places) d.not_before d.not_after) }

@@ -20,15 +20,6 @@ use crate::walks::holds_names;
 use sig_base::{Result, SigstoreError};
 use sig_der::oid::SUBJECT_ALTERNATIVE_NAME;
 
-fn may_sign(usage: std::result::Result<Option<KeyUsage>, CertificateValidationError>) -> bool
-    ensures { result ≡ may_sign usage }
-{
-    match usage {
-        Ok(Some(found)) => found.digital_signature,
-        _ => false,
-    }
-}
-
 /// Whether code signing is among the purposes of the certificate's extended key usage (RFC 5280 section 4.2.1.12).
 pub fn may_sign_code(certificate: &Certificate) -> bool
     ensures { result ≡ may_sign_code (code_signing certificate.now) }
@@ -69,15 +60,12 @@ fn check_usages(certificate: &Certificate) -> Result<()>
     Ok(())
 }
 
-/// Whether exactly one well-formed extension of alternative names is there.
-#[tactic(auto, using(crate::proofs::HeldLaws::named_laws))]
-fn is_named(certificate: &Certificate) -> bool
-    ensures { result ≡ is_named (with_oid subject_alternative_name certificate.now.extensions) }
+fn may_sign(usage: std::result::Result<Option<KeyUsage>, CertificateValidationError>) -> bool
+    ensures { result ≡ may_sign usage }
 {
-    match certificate.extension(SUBJECT_ALTERNATIVE_NAME) {
-        Lookup::One(extension) => holds_names(extension.value),
-        Lookup::Absent => false,
-        Lookup::Several => false,
+    match usage {
+        Ok(Some(found)) => found.digital_signature,
+        _ => false,
     }
 }
 
@@ -101,6 +89,18 @@ fn check_names(certificate: &Certificate) -> Result<()>
         Ok(())
     } else {
         Err(SigstoreError::CertificateWithoutSubjectAlternativeName)
+    }
+}
+
+/// Whether exactly one well-formed extension of alternative names is there.
+#[tactic(auto, using(crate::proofs::HeldLaws::named_laws))]
+fn is_named(certificate: &Certificate) -> bool
+    ensures { result ≡ is_named (with_oid subject_alternative_name certificate.now.extensions) }
+{
+    match certificate.extension(SUBJECT_ALTERNATIVE_NAME) {
+        Lookup::One(extension) => holds_names(extension.value),
+        Lookup::Absent => false,
+        Lookup::Several => false,
     }
 }
 

@@ -34,6 +34,15 @@ pub struct BasicConstraints {
     pub path_len: Option<u32>,
 }
 
+/// Returns what a key usage of this value says. `None` if it is malformed.
+#[tactic(auto, unfolding(crate::specs::Values::key_usage_of))]
+pub(crate) fn read_key_usage(value: &[u8]) -> Option<KeyUsage>
+    ensures { result ≡ key_usage_of value.now }
+{
+    let string = take_whole(value, tag::BIT_STRING)?;
+    usage(string.content)
+}
+
 #[tactic(auto, unfolding(crate::specs::Values::usage_of))]
 fn usage(content: &[u8]) -> Option<KeyUsage>
     ensures { result ≡ usage_of content.now }
@@ -51,15 +60,6 @@ fn usage(content: &[u8]) -> Option<KeyUsage>
     }
 }
 
-/// Returns what a key usage of this value says. `None` if it is malformed.
-#[tactic(auto, unfolding(crate::specs::Values::key_usage_of))]
-pub(crate) fn read_key_usage(value: &[u8]) -> Option<KeyUsage>
-    ensures { result ≡ key_usage_of value.now }
-{
-    let string = take_whole(value, tag::BIT_STRING)?;
-    usage(string.content)
-}
-
 /// Returns the contents octets of the object identifier at the front of the bytes, and what follows it. `None` if
 /// there is none, or an empty one.
 #[tactic(auto, unfolding(crate::specs::Values::oid_at))]
@@ -73,21 +73,13 @@ pub(crate) fn take_oid(bytes: &[u8]) -> Option<(&[u8], &[u8])>
     Some((oid.content, rest))
 }
 
-/// The INTEGER of this content, which is minimal, not negative and has at most four bytes.
-#[tactic(auto, unfolding(crate::specs::Values::natural_of))]
-fn number(content: &[u8]) -> Option<u32>
-    ensures { result ≡ natural_of content.now }
+/// Returns what basic constraints of this value say. `None` if they are malformed.
+#[tactic(auto, unfolding(crate::specs::Values::basic_constraints_of))]
+pub(crate) fn read_basic_constraints(value: &[u8]) -> Option<BasicConstraints>
+    ensures { result ≡ basic_constraints_of value.now }
 {
-    match content {
-        [a @ 0..=127] => Some(*a as u32),
-        [0, 0..=127, ..] => None,
-        [a @ 0..=127, b] => Some(*a as u32 * 256 + *b as u32),
-        [a @ 0..=127, b, c] => Some(*a as u32 * 65536 + *b as u32 * 256 + *c as u32),
-        [a @ 0..=127, b, c, d] => {
-            Some(*a as u32 * 16777216 + *b as u32 * 65536 + *c as u32 * 256 + *d as u32)
-        }
-        _ => None,
-    }
+    let sequence = take_whole(value, tag::SEQUENCE)?;
+    read_constraints(Reader::new(sequence.content))
 }
 
 #[tactic(auto, unfolding(crate::specs::Values::constraints_in))]
@@ -107,11 +99,19 @@ fn read_constraints(reader: Reader<'_>) -> Option<BasicConstraints>
     }
 }
 
-/// Returns what basic constraints of this value say. `None` if they are malformed.
-#[tactic(auto, unfolding(crate::specs::Values::basic_constraints_of))]
-pub(crate) fn read_basic_constraints(value: &[u8]) -> Option<BasicConstraints>
-    ensures { result ≡ basic_constraints_of value.now }
+/// The INTEGER of this content, which is minimal, not negative and has at most four bytes.
+#[tactic(auto, unfolding(crate::specs::Values::natural_of))]
+fn number(content: &[u8]) -> Option<u32>
+    ensures { result ≡ natural_of content.now }
 {
-    let sequence = take_whole(value, tag::SEQUENCE)?;
-    read_constraints(Reader::new(sequence.content))
+    match content {
+        [a @ 0..=127] => Some(*a as u32),
+        [0, 0..=127, ..] => None,
+        [a @ 0..=127, b] => Some(*a as u32 * 256 + *b as u32),
+        [a @ 0..=127, b, c] => Some(*a as u32 * 65536 + *b as u32 * 256 + *c as u32),
+        [a @ 0..=127, b, c, d] => {
+            Some(*a as u32 * 16777216 + *b as u32 * 65536 + *c as u32 * 256 + *d as u32)
+        }
+        _ => None,
+    }
 }

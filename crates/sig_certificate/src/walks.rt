@@ -1,7 +1,7 @@
 //! Walks over the lists in extension values, which keep no list.
 
 ghost use Rattle.std.specs.Prelude.{◌≡◌, ◌||◌, option_map, is_some};
-ghost use Rattle.sig_der.specs.Taking.{many_at};
+ghost use Rattle.sig_der.specs.FrontReaders.{many_at};
 ghost use Rattle.sig_certificate.specs.Names.{general_names_of};
 ghost use Rattle.sig_certificate.specs.Values.{oid_at, has_purpose, purposes_of};
 
@@ -9,10 +9,14 @@ use crate::general_names::alternative_names;
 use crate::values::take_oid;
 use sig_der::{tag, take_whole};
 
-fn either(left: bool, right: bool) -> bool
-    ensures { result ≡ (left || right) }
+/// Returns whether this purpose is in an extended key usage of this value. `None` if it is malformed. For
+/// sig_timestamp, whose issuers may only sign precertificates.
+#[tactic(auto, unfolding(crate::specs::Values::purposes_of))]
+pub fn read_purpose(value: &[u8], purpose: &[u8]) -> Option<bool>
+    ensures { option_map (has_purpose purpose.now) (purposes_of value.now) ≡ result }
 {
-    left || right
+    let sequence = take_whole(value, tag::SEQUENCE)?;
+    purpose_among(sequence.content, purpose)
 }
 
 /// Returns whether this object identifier is among those that the bytes are. `None` if they are anything else.
@@ -33,14 +37,10 @@ fn purpose_among(bytes: &[u8], purpose: &[u8]) -> Option<bool>
     Some(found)
 }
 
-/// Returns whether this purpose is in an extended key usage of this value. `None` if it is malformed. For
-/// sig_timestamp, whose issuers may only sign precertificates.
-#[tactic(auto, unfolding(crate::specs::Values::purposes_of))]
-pub fn read_purpose(value: &[u8], purpose: &[u8]) -> Option<bool>
-    ensures { option_map (has_purpose purpose.now) (purposes_of value.now) ≡ result }
+fn either(left: bool, right: bool) -> bool
+    ensures { result ≡ (left || right) }
 {
-    let sequence = take_whole(value, tag::SEQUENCE)?;
-    purpose_among(sequence.content, purpose)
+    left || right
 }
 
 /// Whether alternative names of this value are well formed.

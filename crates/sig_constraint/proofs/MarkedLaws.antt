@@ -18,8 +18,8 @@ use Rattle.sig_json.specs.Builders.{with_member}
 use Rattle.sig_json.specs.Data.{Data, null, boolean, number, string, array, object, Members, no_members, member}
 use Rattle.sig_json.specs.Find.{as_object, as_str, get}
 use Rattle.sig_json.specs.Members.{members_list, members_of}
-use Rattle.sig_json.proofs.Built.{found_where_set, others_stay}
-use Rattle.sig_json.proofs.Staying.{is_object-with_member}
+use Rattle.sig_json.proofs.BuiltTrees.{found_where_set, others_stay}
+use Rattle.sig_json.proofs.StableKinds.{is_object-with_member}
 use Rattle.sig_payload.specs.Annotations.{Asked, are_annotated, is_annotated, is_empty_extra, is_no_member, is_said, satisfies}
 use Rattle.sig_payload.specs.Signing.{Beside, Signing}
 use Rattle.sig_cosign.specs.Layer.{Layer}

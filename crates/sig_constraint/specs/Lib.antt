@@ -1,4 +1,4 @@
-pub mod Meaning
+pub mod CallResults
 pub mod Satisfied
 pub mod Applied
 pub mod Marked

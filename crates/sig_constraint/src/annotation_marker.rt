@@ -7,7 +7,7 @@ ghost use Rattle.sig_json.specs.Tree.{document_tree};
 ghost use Rattle.sig_payload.specs.Signing.{seen_optional};
 ghost use Rattle.sig_cosign.specs.Layer.{seen_layer};
 ghost use Rattle.sig_constraint.specs.Marked.{annotations_of, are_free, is_free, marker_gives, with_extra, with_texts};
-ghost use Rattle.sig_constraint.specs.Meaning.{IsApplied};
+ghost use Rattle.sig_constraint.specs.CallResults.{IsApplied};
 
 use crate::constraint::Constraint;
 use sig_base::{OutOfMemory, Result, TextMap};

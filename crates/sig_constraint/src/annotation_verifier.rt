@@ -4,7 +4,7 @@ ghost use Rattle.std.specs.Prelude.{IsOkUnless};
 ghost use Rattle.sig_base.specs.declared.error.SigstoreError.TheVariants.{OutOfMemory as Memory};
 ghost use Rattle.sig_payload.specs.Annotations.{satisfies};
 ghost use Rattle.sig_cosign.specs.Layer.{seen_layer};
-ghost use Rattle.sig_constraint.specs.Meaning.{IsVerdict};
+ghost use Rattle.sig_constraint.specs.CallResults.{IsVerdict};
 
 use crate::constraint::VerificationConstraint;
 use sig_base::{Result, TextMap};

@@ -10,7 +10,7 @@ ghost use Rattle.sig_cosign.specs.Layer.{Layer, seen_layer};
 ghost use Rattle.sig_constraint.specs.Certified.{IsCertificateVerifier, IsCertifiedKey, IsCertifiedResult};
 ghost use Rattle.sig_constraint.specs.Certified.{IsKeyResult, IsReadResult, Key as key_type, is_certified, is_timely};
 ghost use Rattle.sig_constraint.specs.Certified.{signer_refusal};
-ghost use Rattle.sig_constraint.specs.Meaning.{IsVerdict};
+ghost use Rattle.sig_constraint.specs.CallResults.{IsVerdict};
 
 use crate::certificate_chain::check_chain;
 use crate::constraint::VerificationConstraint;

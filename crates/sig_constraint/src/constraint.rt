@@ -2,7 +2,7 @@
 
 ghost use Rattle.std.specs.Prelude.{Bool, Option};
 ghost use Rattle.sig_cosign.specs.Layer.{Layer, seen_layer};
-ghost use Rattle.sig_constraint.specs.Meaning.{IsVerdict, IsApplied};
+ghost use Rattle.sig_constraint.specs.CallResults.{IsVerdict, IsApplied};
 
 use sig_base::Result;
 use sig_cosign::SignatureLayer;

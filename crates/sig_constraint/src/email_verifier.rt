@@ -4,7 +4,7 @@ ghost use Rattle.std.specs.Prelude.{◌≡◌, IfOk, IsOkUnless, option_map, opt
 ghost use Rattle.sig_base.specs.declared.error.SigstoreError.TheVariants.{OutOfMemory as Memory};
 ghost use Rattle.sig_cosign.specs.Layer.{seen_layer};
 ghost use Rattle.sig_signer.specs.Signer.{seen_signer};
-ghost use Rattle.sig_constraint.specs.Meaning.{IsVerdict};
+ghost use Rattle.sig_constraint.specs.CallResults.{IsVerdict};
 ghost use Rattle.sig_constraint.specs.Subjects.{accepts_issuer, is_of_email, names_email};
 
 use crate::constraint::VerificationConstraint;

@@ -10,7 +10,7 @@ ghost use Rattle.sig_key.specs.Spki.{IsKeyOf, IsNoKeyInfo, IsUnsupported};
 ghost use Rattle.sig_cosign.specs.Layer.{Layer, seen_layer};
 ghost use Rattle.sig_cosign.specs.Signed.{is_signed_by};
 ghost use Rattle.sig_constraint.specs.Keyed.{IsKeyVerifier, IsSpkiVerifier};
-ghost use Rattle.sig_constraint.specs.Meaning.{IsVerdict};
+ghost use Rattle.sig_constraint.specs.CallResults.{IsVerdict};
 
 use crate::constraint::VerificationConstraint;
 use sig_base::{Result, SignatureChecker, SigningScheme};

@@ -4,7 +4,7 @@ ghost use Rattle.std.specs.Prelude.{◌≡◌, IsOkUnless, Some};
 ghost use Rattle.sig_base.specs.declared.error.SigstoreError.TheVariants.{OutOfMemory as Memory};
 ghost use Rattle.sig_cosign.specs.Layer.{seen_layer};
 ghost use Rattle.sig_signer.specs.Signer.{seen_signer};
-ghost use Rattle.sig_constraint.specs.Meaning.{IsVerdict};
+ghost use Rattle.sig_constraint.specs.CallResults.{IsVerdict};
 ghost use Rattle.sig_constraint.specs.Subjects.{is_of_url, is_text, names_url};
 
 use crate::constraint::VerificationConstraint;
@@ -16,7 +16,7 @@ use std::alloc::Global;
 /// certificate's key signed the layer is asked by [`CertificateVerifier`](crate::CertificateVerifier) of the same layer.
 #[derive(Drop)]
 pub struct CertSubjectUrlVerifier {
-    /// The URI.
+    /// The URI that the certificate has to name, byte for byte.
     pub url: Text,
     /// The issuer of the word for it.
     pub issuer: Text,

@@ -1,5 +1,5 @@
 mod BundleLayers
-mod Built
+mod ManifestLayers
 mod Firsts
 mod LayersOf
 mod OciLayers

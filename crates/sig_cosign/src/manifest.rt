@@ -73,16 +73,6 @@ pub fn build_signature_layers<C: SignatureChecker>(
     }
 }
 
-/// The layers. Fails with `SigstoreNoVerifiedLayer` if there are none.
-fn unless_empty(made: Layers) -> sig_base::Result<Layers>
-    ensures { result ≡ or_none made }
-{
-    if made.len() == 0 {
-        return Err(SigstoreError::SigstoreNoVerifiedLayer);
-    }
-    Ok(made)
-}
-
 /// The layers of the descriptors, in their order. Fails only if out of memory.
 fn made_layers<C: SignatureChecker>(
     alloc: Global,
@@ -184,4 +174,14 @@ fn layer_if<C: SignatureChecker>(
         Ok(made) => Ok(Some(made)),
         Err(error) => none_unless(error),
     }
+}
+
+/// The layers. Fails with `SigstoreNoVerifiedLayer` if there are none.
+fn unless_empty(made: Layers) -> sig_base::Result<Layers>
+    ensures { result ≡ or_none made }
+{
+    if made.len() == 0 {
+        return Err(SigstoreError::SigstoreNoVerifiedLayer);
+    }
+    Ok(made)
 }

@@ -107,6 +107,35 @@ struct Parts {
     bundle: Option<BundleContent>,
 }
 
+/// What goes into the layer of a descriptor and its bytes, except for the certificate.
+#[tactic(auto, unfolding(crate::specs::OciLayer::parts_answer))]
+fn gather_parts<C: SignatureChecker>(
+    alloc: Global,
+    descriptor: &OciDescriptor,
+    layer: &ImageLayer,
+    source: &str,
+    keys: Option<&VerificationKeys>,
+    checker: &C,
+) -> Result<Parts>
+    ensures { Answers Memory seen_parts result (parts_answer (C.spki_accepts checker.now)
+        (option_map (λ k. k.now) keys.entry) descriptor.now layer.now source.now) }
+{
+    check_types(descriptor, layer)?;
+    check_digest(alloc, descriptor, layer)?;
+    let signing = payload(alloc, source, layer)?;
+    match read_noted(alloc, descriptor, keys, checker) {
+        Ok(noted) => Ok(Parts {
+            signing,
+            signature: noted.signature,
+            bundle: noted.bundle,
+        }),
+        Err(error) => {
+            drop(signing);
+            Err(error)
+        }
+    }
+}
+
 /// Fails with `SigstoreMediaTypeNotFoundError` unless both media types are that of a payload.
 fn check_types(descriptor: &OciDescriptor, layer: &ImageLayer) -> Result<()>
     ensures { result ≡ typed descriptor.now layer.now }
@@ -130,8 +159,8 @@ fn check_digest(alloc: Global, descriptor: &OciDescriptor, layer: &ImageLayer) -
     }
 }
 
-/// The payload that the bytes are. Fails with `LayerUnreadable` if they are none, and with `ImageDigest` if it is of
-/// another image.
+/// The payload that the bytes are. Fails with `LayerUnreadable` if they are not one, and with `ImageDigest` if it is
+/// of another image.
 fn payload(alloc: Global, source: &str, layer: &ImageLayer) -> Result<SimpleSigning>
     ensures { Answers Memory seen_signing result (payload_answer source.now layer.now) }
 {
@@ -141,6 +170,33 @@ fn payload(alloc: Global, source: &str, layer: &ImageLayer) -> Result<SimpleSign
     } else {
         drop(signing);
         Err(SigstoreError::UnexpectedError(UnexpectedKind::ImageDigest))
+    }
+}
+
+/// What is noted beside a layer.
+#[derive(Drop)]
+struct Noted {
+    signature: Text,
+    bundle: Option<BundleContent>,
+}
+
+/// The signature, and what Rekor promised of it.
+fn read_noted<C: SignatureChecker>(
+    alloc: Global,
+    descriptor: &OciDescriptor,
+    keys: Option<&VerificationKeys>,
+    checker: &C,
+) -> Result<Noted>
+    ensures { Answers Memory (λ noted. noted) result (noted_answer (C.spki_accepts checker.now)
+        (option_map (λ k. k.now) keys.entry) descriptor.now) }
+{
+    let signature = signature(alloc, descriptor)?;
+    match promised(alloc, descriptor, keys, checker) {
+        Ok(bundle) => Ok(Noted { signature, bundle }),
+        Err(error) => {
+            drop(signature);
+            Err(error)
+        }
     }
 }
 
@@ -172,62 +228,6 @@ fn promised<C: SignatureChecker>(
     };
     let bundle = Bundle::new_verified(alloc, text, keys, checker)?;
     Ok(Some(BundleContent::RekorBundle(bundle)))
-}
-
-/// What goes into the layer of a descriptor and its bytes, except for the certificate.
-#[tactic(auto, unfolding(crate::specs::OciLayer::parts_answer))]
-fn gather_parts<C: SignatureChecker>(
-    alloc: Global,
-    descriptor: &OciDescriptor,
-    layer: &ImageLayer,
-    source: &str,
-    keys: Option<&VerificationKeys>,
-    checker: &C,
-) -> Result<Parts>
-    ensures { Answers Memory seen_parts result (parts_answer (C.spki_accepts checker.now)
-        (option_map (λ k. k.now) keys.entry) descriptor.now layer.now source.now) }
-{
-    check_types(descriptor, layer)?;
-    check_digest(alloc, descriptor, layer)?;
-    let signing = payload(alloc, source, layer)?;
-    match read_noted(alloc, descriptor, keys, checker) {
-        Ok(noted) => Ok(Parts {
-            signing,
-            signature: noted.signature,
-            bundle: noted.bundle,
-        }),
-        Err(error) => {
-            drop(signing);
-            Err(error)
-        }
-    }
-}
-
-/// What is noted beside a layer.
-#[derive(Drop)]
-struct Noted {
-    signature: Text,
-    bundle: Option<BundleContent>,
-}
-
-/// The signature, and what Rekor promised of it.
-fn read_noted<C: SignatureChecker>(
-    alloc: Global,
-    descriptor: &OciDescriptor,
-    keys: Option<&VerificationKeys>,
-    checker: &C,
-) -> Result<Noted>
-    ensures { Answers Memory (λ noted. noted) result (noted_answer (C.spki_accepts checker.now)
-        (option_map (λ k. k.now) keys.entry) descriptor.now) }
-{
-    let signature = signature(alloc, descriptor)?;
-    match promised(alloc, descriptor, keys, checker) {
-        Ok(bundle) => Ok(Noted { signature, bundle }),
-        Err(error) => {
-            drop(signature);
-            Err(error)
-        }
-    }
 }
 
 /// The layer of these parts, with who signed.

@@ -9,6 +9,60 @@ use sig_signer::CertificateSignature;
 use sig_x509::CertificatePool;
 use std::alloc::Global;
 
+/// Who signed a layer, by the word of its certificate at the time of its log entry; `None` if one of them or a pool is
+/// absent, or the certificate has an error. Fails only if out of memory.
+pub(crate) fn signer_among<C: SignatureChecker>(
+    alloc: Global,
+    der: &Option<Bytes>,
+    pool: Option<&CertificatePool>,
+    bundle: &Option<BundleContent>,
+    now: i64,
+    checker: &C,
+) -> Result<Option<CertificateSignature>, OutOfMemory>
+    ensures found { IfOk result (λ s. IsSignerAmong (C.cert_accepts checker.now) (option_map (λ p. p.now) pool.entry)
+        der.now bundle.now now (option_map seen_signer s)) }
+    ensures only { (meant : option_type signer_type)
+        → IsSignerAmong (C.cert_accepts checker.now) (option_map (λ p. p.now) pool.entry) der.now bundle.now now meant
+        → IfOk result (λ s. option_map seen_signer s ≡ meant) }
+{
+    let Some(der) = der else {
+        return Ok(None);
+    };
+    let Some(bundle) = bundle else {
+        return Ok(None);
+    };
+    signer_in(
+        alloc,
+        der.as_slice(),
+        pool,
+        bundle.integrated_time(),
+        now,
+        checker,
+    )
+}
+
+/// Who signed, by the word of the certificate that the bytes are; `None` if that has an error, or there is no pool.
+/// Fails only if out of memory.
+pub(crate) fn signer_in<C: SignatureChecker>(
+    alloc: Global,
+    der: &[u8],
+    pool: Option<&CertificatePool>,
+    integrated_time: i64,
+    now: i64,
+    checker: &C,
+) -> Result<Option<CertificateSignature>, OutOfMemory>
+    ensures found { IfOk result (λ s. IsSignerIn (C.cert_accepts checker.now) (option_map (λ p. p.now) pool.entry)
+        der.now integrated_time now (option_map seen_signer s)) }
+    ensures only { (meant : option_type signer_type)
+        → IsSignerIn (C.cert_accepts checker.now) (option_map (λ p. p.now) pool.entry) der.now integrated_time now meant
+        → IfOk result (λ s. option_map seen_signer s ≡ meant) }
+{
+    match pool {
+        Some(pool) => signer_if(alloc, der, pool, integrated_time, now, checker),
+        None => Ok(None),
+    }
+}
+
 /// Who signed, by the word of the certificate that the bytes are; `None` if that has an error. Fails only if out of
 /// memory.
 fn signer_if<C: SignatureChecker>(
@@ -46,58 +100,4 @@ pub(crate) fn none_unless<T>(error: SigstoreError) -> Result<Option<T>, OutOfMem
         SigstoreError::OutOfMemory => Err(OutOfMemory),
         _ => Ok(None),
     }
-}
-
-/// Who signed, by the word of the certificate that the bytes are; `None` if that has an error, or there is no pool.
-/// Fails only if out of memory.
-pub(crate) fn signer_in<C: SignatureChecker>(
-    alloc: Global,
-    der: &[u8],
-    pool: Option<&CertificatePool>,
-    integrated_time: i64,
-    now: i64,
-    checker: &C,
-) -> Result<Option<CertificateSignature>, OutOfMemory>
-    ensures found { IfOk result (λ s. IsSignerIn (C.cert_accepts checker.now) (option_map (λ p. p.now) pool.entry)
-        der.now integrated_time now (option_map seen_signer s)) }
-    ensures only { (meant : option_type signer_type)
-        → IsSignerIn (C.cert_accepts checker.now) (option_map (λ p. p.now) pool.entry) der.now integrated_time now meant
-        → IfOk result (λ s. option_map seen_signer s ≡ meant) }
-{
-    match pool {
-        Some(pool) => signer_if(alloc, der, pool, integrated_time, now, checker),
-        None => Ok(None),
-    }
-}
-
-/// Who signed a layer, by the word of its certificate at the time of its log entry; `None` if one of them or a pool is
-/// absent, or the certificate has an error. Fails only if out of memory.
-pub(crate) fn signer_among<C: SignatureChecker>(
-    alloc: Global,
-    der: &Option<Bytes>,
-    pool: Option<&CertificatePool>,
-    bundle: &Option<BundleContent>,
-    now: i64,
-    checker: &C,
-) -> Result<Option<CertificateSignature>, OutOfMemory>
-    ensures found { IfOk result (λ s. IsSignerAmong (C.cert_accepts checker.now) (option_map (λ p. p.now) pool.entry)
-        der.now bundle.now now (option_map seen_signer s)) }
-    ensures only { (meant : option_type signer_type)
-        → IsSignerAmong (C.cert_accepts checker.now) (option_map (λ p. p.now) pool.entry) der.now bundle.now now meant
-        → IfOk result (λ s. option_map seen_signer s ≡ meant) }
-{
-    let Some(der) = der else {
-        return Ok(None);
-    };
-    let Some(bundle) = bundle else {
-        return Ok(None);
-    };
-    signer_in(
-        alloc,
-        der.as_slice(),
-        pool,
-        bundle.integrated_time(),
-        now,
-        checker,
-    )
 }

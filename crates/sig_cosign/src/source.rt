@@ -20,6 +20,6 @@ pub struct OciDescriptor {
 pub struct ImageLayer {
     /// What kind of bytes it is.
     pub media_type: Text,
-    /// The bytes.
+    /// The bytes that the registry sent.
     pub bytes: Bytes,
 }

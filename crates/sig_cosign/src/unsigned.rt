@@ -10,32 +10,6 @@ use sig_json_text::quoted;
 use sig_payload::SimpleSigning;
 use std::alloc::Global;
 
-/// The digest of some bytes, as registries write it. Fails only if out of memory.
-pub(crate) fn digest_of(alloc: Global, bytes: &[u8]) -> std::result::Result<Text, OutOfMemory>
-    ensures { IfOk result (λ digest. digest ≡ digest_of bytes.now) }
-{
-    let digits = hex::encode(alloc, &sha256(bytes))?;
-    Ok(Text::from(format!(in alloc; "sha256:{digits}")?))
-}
-
-/// The text of a payload. Fails only if out of memory.
-#[tactic(auto, unfolding(crate::specs::Unsigned::unsigned_text))]
-fn unsigned_text(
-    alloc: Global,
-    image_ref: &str,
-    manifest_digest: &str,
-) -> std::result::Result<Text, OutOfMemory>
-    ensures { IfOk result (λ text. text ≡ unsigned_text image_ref.now manifest_digest.now) }
-{
-    let reference = quoted(alloc, image_ref)?;
-    let digest = quoted(alloc, manifest_digest)?;
-    let (reference, digest) = (reference.as_str(), digest.as_str());
-    let text = format!(in alloc;
-        "{{\"critical\":{{\"identity\":{{\"docker-reference\":{reference}}},\"image\":{{\"docker-manifest-digest\":{digest}}},\"type\":\"cosign container image signature\"}},\"optional\":null}}"
-    )?;
-    Ok(Text::from(text))
-}
-
 impl SignatureLayer {
     /// Returns a layer without a signature: the payload of an image with this reference and this digest of its manifest,
     /// with its JSON as raw data, and the digest of that. Fails only if out of memory.
@@ -59,4 +33,30 @@ impl SignatureLayer {
             raw_data,
         })
     }
+}
+
+/// The text of a payload. Fails only if out of memory.
+#[tactic(auto, unfolding(crate::specs::Unsigned::unsigned_text))]
+fn unsigned_text(
+    alloc: Global,
+    image_ref: &str,
+    manifest_digest: &str,
+) -> std::result::Result<Text, OutOfMemory>
+    ensures { IfOk result (λ text. text ≡ unsigned_text image_ref.now manifest_digest.now) }
+{
+    let reference = quoted(alloc, image_ref)?;
+    let digest = quoted(alloc, manifest_digest)?;
+    let (reference, digest) = (reference.as_str(), digest.as_str());
+    let text = format!(in alloc;
+        "{{\"critical\":{{\"identity\":{{\"docker-reference\":{reference}}},\"image\":{{\"docker-manifest-digest\":{digest}}},\"type\":\"cosign container image signature\"}},\"optional\":null}}"
+    )?;
+    Ok(Text::from(text))
+}
+
+/// The digest of some bytes, as registries write it. Fails only if out of memory.
+pub(crate) fn digest_of(alloc: Global, bytes: &[u8]) -> std::result::Result<Text, OutOfMemory>
+    ensures { IfOk result (λ digest. digest ≡ digest_of bytes.now) }
+{
+    let digits = hex::encode(alloc, &sha256(bytes))?;
+    Ok(Text::from(format!(in alloc; "sha256:{digits}")?))
 }

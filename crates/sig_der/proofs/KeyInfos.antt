@@ -7,7 +7,7 @@ use Rattle.std.proofs.lemmas.List.{nil_from_length, append-nil}
 use Rattle.sig_base.proofs.OptionSteps.{bind_is, bind_of_some, when_is, unless_is, some_is}
 use Rattle.sig_der.specs.Element.{IsElement, StandsFirst, spelled_length}
 use Rattle.sig_der.specs.Reading.{Piece}
-use Rattle.sig_der.specs.Taking.{take_any, take_tag, take_whole}
+use Rattle.sig_der.specs.FrontReaders.{take_any, take_tag, take_whole}
 use Rattle.sig_der.specs.KeyInfo.{Algorithm, IsAtMostOne, IsAlgorithm, KeyInfo, IsKeyInfo, at_most_one, algorithm_at}
 use Rattle.sig_der.specs.KeyInfo.{after_zero, bits_of, key_info_at, is_empty, whole_key_info, IsFirstAlgorithm}
 use Rattle.sig_der.specs.KeyInfo.{IsFirstKeyInfo, IsWholeKeyInfo}

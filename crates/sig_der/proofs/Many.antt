@@ -6,7 +6,7 @@ use Rattle.std.specs.Prelude.{option_map}
 use Rattle.std.proofs.lemmas.List.{append-nil}
 use Rattle.sig_base.specs.OptionSteps.{◌>>=◌}
 use Rattle.sig_base.proofs.OptionSteps.{bind_is, bind_of_some, some, some_is}
-use Rattle.sig_der.specs.Taking.{many_within, many_at}
+use Rattle.sig_der.specs.FrontReaders.{many_within, many_at}
 use Rattle.sig_der.specs.Joined.{joined, AreJoined}
 use Rattle.sig_der.proofs.Bytes.{IsBytes, IsBytes-right}
 

@@ -7,7 +7,7 @@ use Rattle.sig_base.specs.declared.fault.DerError.{DerError}
 use Rattle.sig_base.proofs.OptionSteps.{some, some_is, bind_is, bind_of_some, when_is}
 use Rattle.sig_der.specs.Element.{IsElement, StandsFirst}
 use Rattle.sig_der.specs.Reading.{Piece, element_at}
-use Rattle.sig_der.specs.Taking.{answered, take_any, take_tag, take_whole, take_optional, begins_with}
+use Rattle.sig_der.specs.FrontReaders.{answered, take_any, take_tag, take_whole, take_optional, begins_with}
 use Rattle.sig_der.proofs.Bytes.{IsBytes}
 use Rattle.sig_der.proofs.Elements.{Takes, element_at_takes, element_at_again, element_at_shorter}
 

@@ -4,7 +4,7 @@ use Rattle.std.specs.Prelude.{◌≡◌, ℕ, ◌<◌, List, [], ◌∷◌, ◌+
 use Rattle.sig_base.specs.OptionSteps.{◌>>=◌}
 use Rattle.sig_der.specs.Element.{IsElement}
 use Rattle.sig_der.specs.Reading.{Piece}
-use Rattle.sig_der.specs.Taking.{take_any, take_tag, take_whole}
+use Rattle.sig_der.specs.FrontReaders.{take_any, take_tag, take_whole}
 use Rattle.sig_der.specs.Tag.{BIT_STRING, OBJECT_IDENTIFIER, SEQUENCE}
 
 -- ---- what they are

@@ -5,10 +5,10 @@ pub mod Element
 pub mod Length
 pub mod Reading
 pub mod Faults
-pub mod Borrowed
+pub mod BorrowedElements
 pub mod Children
 pub mod Walks
-pub mod Taking
+pub mod FrontReaders
 pub mod Places
 pub mod Readers
 pub mod Joined

@@ -4,7 +4,7 @@ use Rattle.sig_base.specs.declared.fault.DerError.{DerError}
 use Rattle.sig_der.specs.declared.element.Element.{Element}
 use Rattle.sig_der.specs.declared.iter.Children.{Children}
 use Rattle.sig_der.specs.Reading.{Piece}
-use Rattle.sig_der.specs.Borrowed.{piece_of}
+use Rattle.sig_der.specs.BorrowedElements.{piece_of}
 use Rattle.sig_der.specs.Children.{children_of}
 
 abbrev pub item_of : Result Element DerError → Result Piece DerError

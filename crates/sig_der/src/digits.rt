@@ -3,6 +3,17 @@
 ghost use Rattle.std.specs.Prelude.{◌≡◌, ◌<◌, option_map, IfSome};
 ghost use Rattle.sig_der.specs.Digits.{two_at, four_at, skip, day_at, clock_at};
 
+/// Returns the number of the four digits at the front, and what follows them.
+#[tactic(auto, unfolding(crate::specs::Digits::four_at))]
+pub(crate) fn read_four(text: &[u8]) -> Option<(u16, &[u8])>
+    ensures exact { option_map (λ x. (x.0, x.1.now)) result ≡ four_at text.now }
+    ensures below { IfSome result (λ x. x.0 < 10000) }
+{
+    let (high, rest) = read_two(text)?;
+    let (low, rest) = read_two(rest)?;
+    Some((high as u16 * 100 + low as u16, rest))
+}
+
 /// Returns the number of the two digits at the front, and what follows them.
 #[tactic(auto, unfolding(crate::specs::Digits::two_at))]
 pub(crate) fn read_two(text: &[u8]) -> Option<(u8, &[u8])>
@@ -18,15 +29,17 @@ pub(crate) fn read_two(text: &[u8]) -> Option<(u8, &[u8])>
     }
 }
 
-/// Returns the number of the four digits at the front, and what follows them.
-#[tactic(auto, unfolding(crate::specs::Digits::four_at))]
-pub(crate) fn read_four(text: &[u8]) -> Option<(u16, &[u8])>
-    ensures exact { option_map (λ x. (x.0, x.1.now)) result ≡ four_at text.now }
-    ensures below { IfSome result (λ x. x.0 < 10000) }
+/// Reads month and day with the mark between them, and what follows.
+#[tactic(auto, unfolding(crate::specs::Digits::day_at))]
+pub(crate) fn read_day(text: &[u8], mark: Option<u8>) -> Option<((u8, u8), &[u8])>
+    ensures exact { option_map (λ x. (x.0, x.1.now)) result ≡ day_at mark text.now }
+    ensures months { IfSome result (λ x. x.0.0 < 100) }
+    ensures days { IfSome result (λ x. x.0.1 < 100) }
 {
-    let (high, rest) = read_two(text)?;
-    let (low, rest) = read_two(rest)?;
-    Some((high as u16 * 100 + low as u16, rest))
+    let (month, rest) = read_two(text)?;
+    let rest = skip_mark(rest, mark)?;
+    let (day, rest) = read_two(rest)?;
+    Some(((month, day), rest))
 }
 
 /// Returns what follows the mark, or the whole text if no mark is wanted.
@@ -41,19 +54,6 @@ pub(crate) fn skip_mark(text: &[u8], mark: Option<u8>) -> Option<&[u8]>
         [first, rest @ ..] if *first == mark => Some(rest),
         _ => None,
     }
-}
-
-/// Reads month and day with the mark between them, and what follows.
-#[tactic(auto, unfolding(crate::specs::Digits::day_at))]
-pub(crate) fn read_day(text: &[u8], mark: Option<u8>) -> Option<((u8, u8), &[u8])>
-    ensures exact { option_map (λ x. (x.0, x.1.now)) result ≡ day_at mark text.now }
-    ensures months { IfSome result (λ x. x.0.0 < 100) }
-    ensures days { IfSome result (λ x. x.0.1 < 100) }
-{
-    let (month, rest) = read_two(text)?;
-    let rest = skip_mark(rest, mark)?;
-    let (day, rest) = read_two(rest)?;
-    Some(((month, day), rest))
 }
 
 /// Reads hour, minute and second with the mark between them, and what follows.

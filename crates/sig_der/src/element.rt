@@ -4,7 +4,7 @@ ghost use Rattle.std.specs.Prelude.{◌≡◌, ◌↔◌, ℕ, List, Ok, IfOk, I
 ghost use Rattle.sig_der.specs.Element.{IsElement, StandsFirst, IsFollowed, IsOfAnother};
 ghost use Rattle.sig_der.specs.Faults.{HasLongTag, HasBadLength, IsCutElement};
 ghost use Rattle.sig_der.specs.Reading.{Gives, Piece, element_at, all_at, fault_of};
-ghost use Rattle.sig_der.specs.Borrowed.{piece_of, front_of};
+ghost use Rattle.sig_der.specs.BorrowedElements.{piece_of, front_of};
 
 use crate::length::read_length;
 use sig_base::DerError;
@@ -18,6 +18,29 @@ pub struct Element<'a> {
     pub whole: &'a [u8],
     /// The contents octets.
     pub content: &'a [u8],
+}
+
+/// Reads the element at the front of the bytes, and returns it with what follows it.
+///
+/// Fails with the first of
+/// - `LongTag` if the low five bits of the tag are all ones;
+/// - `Length` if the length is indefinite, has more than four bytes after the first, or is not in the fewest bytes;
+/// - `Truncated` if bytes are missing.
+pub fn read_element(bytes: &[u8]) -> Result<(Element<'_>, &[u8]), DerError>
+    // What is returned is at the front.
+    ensures found { IfOk result (λ x. StandsFirst x.0.whole.now x.0.tag x.0.content.now x.1.now bytes.now) }
+    // What is at the front is returned.
+    ensures only { (whole content rest : List ℕ) (tag : ℕ) → StandsFirst whole tag content rest bytes.now
+        → Gives front_of result (Ok (record { tag = tag; whole = whole; content = content }, rest)) }
+    // Which fault it is.
+    ensures fault { IfErr result (λ e. e ≡ fault_of bytes.now) }
+    ensures long_tag { IsErrOf result DerError.LongTag ↔ HasLongTag bytes.now }
+    ensures bad_length { IsErrOf result DerError.Length ↔ HasBadLength bytes.now }
+    ensures truncated { IsErrOf result DerError.Truncated ↔ IsCutElement bytes.now }
+    // The result is that of the plain reader.
+    ensures exact { Gives front_of result (element_at bytes.now) }
+{
+    cut(bytes)
 }
 
 #[tactic(auto, unfolding(crate::specs::Reading::element_at))]
@@ -47,43 +70,6 @@ fn cut(bytes: &[u8]) -> Result<(Element<'_>, &[u8]), DerError>
     ))
 }
 
-/// Reads the element at the front of the bytes, and returns it with what follows it.
-///
-/// Fails with the first of
-/// - `LongTag` if the low five bits of the tag are all ones;
-/// - `Length` if the length is indefinite, has more than four bytes after the first, or is not in the fewest bytes;
-/// - `Truncated` if bytes are missing.
-pub fn read_element(bytes: &[u8]) -> Result<(Element<'_>, &[u8]), DerError>
-    // What is returned is at the front.
-    ensures found { IfOk result (λ x. StandsFirst x.0.whole.now x.0.tag x.0.content.now x.1.now bytes.now) }
-    // What is at the front is returned.
-    ensures only { (whole content rest : List ℕ) (tag : ℕ) → StandsFirst whole tag content rest bytes.now
-        → Gives front_of result (Ok (record { tag = tag; whole = whole; content = content }, rest)) }
-    // Which fault it is.
-    ensures fault { IfErr result (λ e. e ≡ fault_of bytes.now) }
-    ensures long_tag { IsErrOf result DerError.LongTag ↔ HasLongTag bytes.now }
-    ensures bad_length { IsErrOf result DerError.Length ↔ HasBadLength bytes.now }
-    ensures truncated { IsErrOf result DerError.Truncated ↔ IsCutElement bytes.now }
-    // The result is that of the plain reader.
-    ensures exact { Gives front_of result (element_at bytes.now) }
-{
-    cut(bytes)
-}
-
-#[tactic(auto, unfolding(crate::specs::Reading::all_at))]
-fn cut_all(bytes: &[u8], tag: u8) -> Result<Element<'_>, DerError>
-    ensures { Gives piece_of result (all_at tag bytes.now) }
-{
-    let (element, rest) = read_element(bytes)?;
-    if !rest.is_empty() {
-        return Err(DerError::Trailing);
-    }
-    if element.tag != tag {
-        return Err(DerError::WrongTag);
-    }
-    Ok(element)
-}
-
 /// Reads the one element of this tag that the bytes are.
 ///
 /// Fails as `read_element` does; then with `Trailing` if bytes follow the element; then with `WrongTag` if it has
@@ -104,4 +90,18 @@ pub fn read_all(bytes: &[u8], tag: u8) -> Result<Element<'_>, DerError>
     ensures exact { Gives piece_of result (all_at tag bytes.now) }
 {
     cut_all(bytes, tag)
+}
+
+#[tactic(auto, unfolding(crate::specs::Reading::all_at))]
+fn cut_all(bytes: &[u8], tag: u8) -> Result<Element<'_>, DerError>
+    ensures { Gives piece_of result (all_at tag bytes.now) }
+{
+    let (element, rest) = read_element(bytes)?;
+    if !rest.is_empty() {
+        return Err(DerError::Trailing);
+    }
+    if element.tag != tag {
+        return Err(DerError::WrongTag);
+    }
+    Ok(element)
 }

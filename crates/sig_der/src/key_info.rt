@@ -27,7 +27,7 @@ use crate::tag;
 pub struct AlgorithmPlaces {
     /// The whole SEQUENCE.
     pub whole: Place,
-    /// The object identifier.
+    /// The object identifier, which names the algorithm.
     pub oid: Place,
     /// The parameters, if there are any.
     pub parameters: Option<Place>,
@@ -38,17 +38,10 @@ pub struct AlgorithmPlaces {
 pub struct KeyInfoPlaces {
     /// The whole SEQUENCE.
     pub whole: Place,
-    /// The algorithm.
+    /// The AlgorithmIdentifier of the key (RFC 5280 section 4.1.2.7).
     pub algorithm: AlgorithmPlaces,
     /// Where the bits of the key begin, after the count of unused bits. They end with the whole.
     pub bits: usize,
-}
-
-/// What is left to read is bytes: a law, on which the clauses of both calls below rest. It does nothing.
-fn are_bytes(left: &[u8])
-    ensures { (i : ℕ) → get_or left.now i 0 < 256 }
-{
-    let _left = left;
 }
 
 /// Reads the AlgorithmIdentifier that is next. `None` if what is left begins with none.
@@ -68,6 +61,13 @@ pub fn read_algorithm(reader: Reader<'_>) -> Option<(AlgorithmPlaces, Reader<'_>
 {
     are_bytes(reader.rest());
     cut_algorithm(reader)
+}
+
+/// What is left to read is bytes: a law, on which the clauses of both calls rest. It does nothing.
+fn are_bytes(left: &[u8])
+    ensures { (i : ℕ) → get_or left.now i 0 < 256 }
+{
+    let _left = left;
 }
 
 #[tactic(auto, unfolding(crate::specs::KeyInfo::algorithm_at))]
@@ -156,14 +156,14 @@ fn cut_key_info(reader: Reader<'_>) -> Option<(KeyInfoPlaces, Reader<'_>)>
     Some((places, rest))
 }
 
-/// Reads the SubjectPublicKeyInfo that the bytes are. `None` if they are none.
+/// Reads the SubjectPublicKeyInfo that the bytes are. `None` if they are not one.
 pub fn whole_key_info(bytes: &[u8]) -> Option<KeyInfoPlaces>
     // What is returned is the SubjectPublicKeyInfo that the bytes are.
     ensures found { IfSome result (λ k. IsWholeKeyInfo (key_info_of bytes.now k) bytes.now) }
     // A SubjectPublicKeyInfo is returned.
     ensures only { (k : KeyInfo) → IsWholeKeyInfo k bytes.now
         → option_map (key_info_of bytes.now) result ≡ Some k }
-    // The bytes are none.
+    // `None` comes if and only if the bytes are not one.
     ensures none { (result ≡ None) ↔ ((k : KeyInfo) → ¬ IsWholeKeyInfo k bytes.now) }
     // The result is that of the plain reader.
     ensures cut { whole_key_info bytes.now ≡ option_map (key_info_of bytes.now) result }

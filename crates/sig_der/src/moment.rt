@@ -18,21 +18,6 @@ pub(crate) struct Moment {
     pub(crate) second: u8,
 }
 
-/// Returns the day number, from 1970-01-01 on. `None` if the calendar has no such day.
-fn day_at(year: u16, month: u8, day: u8) -> Option<i32>
-    requires years { year < 10000 }
-    requires months { month < 100 }
-    requires days { day < 100 }
-    ensures real { IsSome result ↔ IsDate (pos year) (pos month) (pos day) }
-    ensures value { IfSome result (λ n. n ≡ days_from_civil (pos year) month day) }
-    ensures bound { IfSome result IsEpochDay }
-{
-    match Date::new(year as i16, month as i8, day as i8) {
-        Err(_) => None,
-        Ok(date) => Some(date.to_unix_epoch_day()),
-    }
-}
-
 /// Returns the second since 1970. `None` if the calendar has no such day, or the day no such second.
 pub(crate) fn second_at(moment: Moment) -> Option<i64>
     requires { IsDecimal moment }
@@ -46,4 +31,19 @@ pub(crate) fn second_at(moment: Moment) -> Option<i64>
     let day = day_at(moment.year, moment.month, moment.day)?;
     let second = moment.hour as u32 * 3600 + moment.minute as u32 * 60 + moment.second as u32;
     Some(day as i64 * 86400 + second as i64)
+}
+
+/// Returns the day number, from 1970-01-01 on. `None` if the calendar has no such day.
+fn day_at(year: u16, month: u8, day: u8) -> Option<i32>
+    requires years { year < 10000 }
+    requires months { month < 100 }
+    requires days { day < 100 }
+    ensures real { IsSome result ↔ IsDate (pos year) (pos month) (pos day) }
+    ensures value { IfSome result (λ n. n ≡ days_from_civil (pos year) month day) }
+    ensures bound { IfSome result IsEpochDay }
+{
+    match Date::new(year as i16, month as i8, day as i8) {
+        Err(_) => None,
+        Ok(date) => Some(date.to_unix_epoch_day()),
+    }
 }

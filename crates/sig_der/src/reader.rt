@@ -28,7 +28,7 @@ pub struct Reader<'a> {
 
 impl<'a> Reader<'a> {
     ghost use Rattle.std.specs.Prelude.{◌==◌, slice_range, option_map, IfSome};
-    ghost use Rattle.sig_der.specs.Taking.{take_any, take_tag, take_whole, take_optional, begins_with};
+    ghost use Rattle.sig_der.specs.FrontReaders.{take_any, take_tag, take_whole, take_optional, begins_with};
     ghost use Rattle.sig_der.specs.Places.{piece_at, IsWithin, IsInside};
     ghost use Rattle.sig_der.specs.Readers.{left, piece_read, option_read, IsRead, IsReadIf};
 
@@ -109,7 +109,7 @@ impl<'a> Reader<'a> {
     }
 
     /// Reads the element of this tag that is next. `None` if what is left begins with no such element.
-    #[tactic(auto, unfolding(crate::specs::Taking::take_tag))]
+    #[tactic(auto, unfolding(crate::specs::FrontReaders::take_tag))]
     pub fn tagged(self, tag: u8) -> Option<(Place, Reader<'a>)>
         ensures cut { take_tag tag (left self.entry) ≡ option_map (piece_read self.entry.bytes.now) result }
         ensures within { IfSome result (IsRead self.entry) }
@@ -124,7 +124,7 @@ impl<'a> Reader<'a> {
 
     /// Reads the element of this tag if the next byte is the tag. If it is another byte, or nothing is left, no
     /// element is taken. `None` if the tag is there and no element begins with it.
-    #[tactic(auto, unfolding(crate::specs::Taking::take_optional))]
+    #[tactic(auto, unfolding(crate::specs::FrontReaders::take_optional))]
     pub fn optional(self, tag: u8) -> Option<(Option<Place>, Reader<'a>)>
         ensures cut { take_optional tag (left self.entry) ≡ option_map (option_read self.entry.bytes.now) result }
         ensures within { IfSome result (IsReadIf self.entry) }
@@ -137,7 +137,7 @@ impl<'a> Reader<'a> {
     }
 
     /// Reads the element of this tag that is all that is left. `None` if there is none, or bytes follow it.
-    #[tactic(auto, unfolding(crate::specs::Taking::take_whole))]
+    #[tactic(auto, unfolding(crate::specs::FrontReaders::take_whole))]
     pub fn whole(self, tag: u8) -> Option<Place>
         ensures cut { take_whole tag (left self.entry) ≡ option_map (piece_at self.entry.bytes.now) result }
         ensures within { IfSome result (IsWithin self.entry.at self.entry.end) }
@@ -148,7 +148,7 @@ impl<'a> Reader<'a> {
     }
 }
 
-ghost use Rattle.sig_der.specs.Taking.{begins_with};
+ghost use Rattle.sig_der.specs.FrontReaders.{begins_with};
 
 fn begins(bytes: &[u8], tag: u8) -> bool
     ensures { result ≡ begins_with tag bytes.now }

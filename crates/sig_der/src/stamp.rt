@@ -10,6 +10,45 @@ ghost use Rattle.sig_der.specs.StampSecond.{second_in};
 use crate::digits::{read_clock, read_day, read_four, read_two, skip_mark};
 use crate::moment::{Moment, second_at};
 
+/// Returns the second since 1970 of a time of RFC 3339 section 5.6, its fraction dropped.
+///
+/// `None` if the text is not YYYY-MM-DDTHH:MM:SS of a real date and time of the years 1 to 9999, then nothing or a
+/// point and one to nine digits, then `Z` or the offset +HH:MM or -HH:MM with hours to 23 and minutes to 59.
+pub fn rfc3339_second(text: &str) -> Option<i64>
+    ensures found { IfSome result (IsInstantOf text.now) }
+    ensures only { (s : ℤ) → IsInstantOf text.now s → result ≡ Some s }
+    // The same in one equation.
+    ensures exact { result ≡ second_in text.now }
+{
+    read_instant(text.as_bytes())
+}
+
+fn read_instant(text: &[u8]) -> Option<i64>
+    ensures found { IfSome result (IsInstantOf text.now) }
+    ensures only { (s : ℤ) → IsInstantOf text.now s → result ≡ Some s }
+{
+    match read_stamp(text) {
+        None => None,
+        Some((moment, offset)) => second_before(moment, offset),
+    }
+}
+
+#[tactic(auto, unfolding(crate::specs::Stamp::stamp_at))]
+fn read_stamp(text: &[u8]) -> Option<(Moment, i64)>
+    ensures exact { result ≡ stamp_at text.now }
+    ensures decimal { IfSome result (λ x. IsDecimal x.0) }
+    ensures day { IfSome result (λ x. IsWithin 86400 x.1) }
+{
+    let (moment, text) = read_front(text)?;
+    let text = skip_fraction(text)?;
+    let offset = read_zone(text)?;
+    if moment.year == 0 {
+        None
+    } else {
+        Some((moment, offset))
+    }
+}
+
 /// Reads YYYY-MM-DDTHH:MM:SS at the front, and returns it with what follows it.
 #[tactic(auto, unfolding(crate::specs::Stamp::front_at))]
 fn read_front(text: &[u8]) -> Option<(Moment, &[u8])>
@@ -34,13 +73,17 @@ fn read_front(text: &[u8]) -> Option<(Moment, &[u8])>
     ))
 }
 
-/// Returns what follows a digit at the front, or the whole text if there is none.
-fn skip_digit(text: &[u8]) -> &[u8]
-    ensures { result.now ≡ after_digit text.now }
+/// Returns what follows the fraction: nothing or a point and one to nine digits.
+#[tactic(auto, unfolding(crate::specs::Stamp::fraction_at))]
+fn skip_fraction(text: &[u8]) -> Option<&[u8]>
+    ensures { option_map (λ x. x.now) result ≡ fraction_at text.now }
 {
-    match text {
-        [b'0'..=b'9', rest @ ..] => rest,
-        _ => text,
+    let [b'.', digits @ ..] = text else {
+        return Some(text);
+    };
+    match digits {
+        [b'0'..=b'9', ..] => Some(skip_digits(digits)),
+        _ => None,
     }
 }
 
@@ -56,16 +99,26 @@ fn skip_digits(text: &[u8]) -> &[u8]
     rest
 }
 
-/// Returns what follows the fraction: nothing or a point and one to nine digits.
-#[tactic(auto, unfolding(crate::specs::Stamp::fraction_at))]
-fn skip_fraction(text: &[u8]) -> Option<&[u8]>
-    ensures { option_map (λ x. x.now) result ≡ fraction_at text.now }
+/// Returns what follows a digit at the front, or the whole text if there is none.
+fn skip_digit(text: &[u8]) -> &[u8]
+    ensures { result.now ≡ after_digit text.now }
 {
-    let [b'.', digits @ ..] = text else {
-        return Some(text);
-    };
-    match digits {
-        [b'0'..=b'9', ..] => Some(skip_digits(digits)),
+    match text {
+        [b'0'..=b'9', rest @ ..] => rest,
+        _ => text,
+    }
+}
+
+/// Returns the seconds that a clock of the zone is ahead of UTC.
+#[tactic(auto, unfolding(crate::specs::Stamp::zone_at))]
+fn read_zone(text: &[u8]) -> Option<i64>
+    ensures exact { result ≡ zone_at text.now }
+    ensures day { IfSome result (IsWithin 86400) }
+{
+    match text {
+        [b'Z'] => Some(0),
+        [b'+', offset @ ..] => Some(read_offset(offset)? as i64),
+        [b'-', offset @ ..] => Some(-(read_offset(offset)? as i64)),
         _ => None,
     }
 }
@@ -86,36 +139,6 @@ fn read_offset(text: &[u8]) -> Option<u32>
     }
 }
 
-/// Returns the seconds that a clock of the zone is ahead of UTC.
-#[tactic(auto, unfolding(crate::specs::Stamp::zone_at))]
-fn read_zone(text: &[u8]) -> Option<i64>
-    ensures exact { result ≡ zone_at text.now }
-    ensures day { IfSome result (IsWithin 86400) }
-{
-    match text {
-        [b'Z'] => Some(0),
-        [b'+', offset @ ..] => Some(read_offset(offset)? as i64),
-        [b'-', offset @ ..] => Some(-(read_offset(offset)? as i64)),
-        _ => None,
-    }
-}
-
-#[tactic(auto, unfolding(crate::specs::Stamp::stamp_at))]
-fn read_stamp(text: &[u8]) -> Option<(Moment, i64)>
-    ensures exact { result ≡ stamp_at text.now }
-    ensures decimal { IfSome result (λ x. IsDecimal x.0) }
-    ensures day { IfSome result (λ x. IsWithin 86400 x.1) }
-{
-    let (moment, text) = read_front(text)?;
-    let text = skip_fraction(text)?;
-    let offset = read_zone(text)?;
-    if moment.year == 0 {
-        None
-    } else {
-        Some((moment, offset))
-    }
-}
-
 /// Returns the second that is so many seconds before the moment.
 fn second_before(moment: Moment, offset: i64) -> Option<i64>
     requires digits { IsDecimal moment }
@@ -127,27 +150,4 @@ fn second_before(moment: Moment, offset: i64) -> Option<i64>
         None => None,
         Some(second) => Some(second - offset),
     }
-}
-
-fn read_instant(text: &[u8]) -> Option<i64>
-    ensures found { IfSome result (IsInstantOf text.now) }
-    ensures only { (s : ℤ) → IsInstantOf text.now s → result ≡ Some s }
-{
-    match read_stamp(text) {
-        None => None,
-        Some((moment, offset)) => second_before(moment, offset),
-    }
-}
-
-/// Returns the second since 1970 of a time of RFC 3339 section 5.6, its fraction dropped.
-///
-/// `None` if the text is not YYYY-MM-DDTHH:MM:SS of a real date and time of the years 1 to 9999, then nothing or a
-/// point and one to nine digits, then `Z` or the offset +HH:MM or -HH:MM with hours to 23 and minutes to 59.
-pub fn rfc3339_second(text: &str) -> Option<i64>
-    ensures found { IfSome result (IsInstantOf text.now) }
-    ensures only { (s : ℤ) → IsInstantOf text.now s → result ≡ Some s }
-    // The same in one equation.
-    ensures exact { result ≡ second_in text.now }
-{
-    read_instant(text.as_bytes())
 }

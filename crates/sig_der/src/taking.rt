@@ -1,8 +1,8 @@
 //! Elements from the front of bytes, for readers that do not say why there is none.
 
 ghost use Rattle.std.specs.Prelude.{◌≡◌, option_map};
-ghost use Rattle.sig_der.specs.Borrowed.{piece_of, front_of};
-ghost use Rattle.sig_der.specs.Taking.{take_any, take_tag, take_whole};
+ghost use Rattle.sig_der.specs.BorrowedElements.{piece_of, front_of};
+ghost use Rattle.sig_der.specs.FrontReaders.{take_any, take_tag, take_whole};
 
 use crate::element::{Element, read_element};
 
@@ -20,7 +20,7 @@ pub fn take_any(bytes: &[u8]) -> Option<(Element<'_>, &[u8])>
 
 /// Returns the element of this tag at the front of the bytes, and what follows it. `None` if the bytes do not begin
 /// with one.
-#[tactic(auto, unfolding(crate::specs::Taking::take_tag))]
+#[tactic(auto, unfolding(crate::specs::FrontReaders::take_tag))]
 pub fn take_tag(bytes: &[u8], tag: u8) -> Option<(Element<'_>, &[u8])>
     ensures { take_tag tag bytes.now ≡ option_map front_of result }
 {
@@ -32,8 +32,8 @@ pub fn take_tag(bytes: &[u8], tag: u8) -> Option<(Element<'_>, &[u8])>
     }
 }
 
-/// Returns the element of this tag that the bytes are. `None` if they are none, or bytes follow it.
-#[tactic(auto, unfolding(crate::specs::Taking::take_whole))]
+/// Returns the element of this tag that the bytes are. `None` if they are not one, or bytes follow it.
+#[tactic(auto, unfolding(crate::specs::FrontReaders::take_whole))]
 pub fn take_whole(bytes: &[u8], tag: u8) -> Option<Element<'_>>
     ensures { take_whole tag bytes.now ≡ option_map piece_of result }
 {

@@ -11,6 +11,45 @@ use crate::moment::{Moment, second_at};
 use crate::tag;
 use sig_base::DerError;
 
+/// Returns the second since 1970 of a UTCTime or a GeneralizedTime (RFC 5280 section 4.1.2.5).
+///
+/// Fails with
+/// - `WrongTag` if the element is neither;
+/// - `Value` if its content is not a time of its kind: YYMMDDHHMMSSZ, where 70 to 99 are 1970 to 1999 and 00 to 49 are
+///   2000 to 2049, or YYYYMMDDHHMMSSZ of the years 1970 to 9999.
+pub fn time_of(element: &Element<'_>) -> Result<i64, DerError>
+    ensures found { IfOk result (IsTimeOf element.now.tag element.now.content.now) }
+    ensures only { (s : ℤ) → IsTimeOf element.now.tag element.now.content.now s → result ≡ Ok s }
+    ensures fault { IfErr result (λ e. e ≡ time_fault element.now.tag) }
+{
+    match element.tag {
+        tag::UTC_TIME => utc_second(element.content).ok_or(DerError::Value),
+        tag::GENERALIZED_TIME => generalized_second(element.content).ok_or(DerError::Value),
+        _ => Err(DerError::WrongTag),
+    }
+}
+
+/// Returns the second since 1970 of a UTCTime.
+fn utc_second(text: &[u8]) -> Option<i64>
+    ensures found { IfSome result (IsSecondOf (IsUtcTime text.now)) }
+    ensures only { (s : ℤ) → IsSecondOf (IsUtcTime text.now) s → result ≡ Some s }
+{
+    match read_utc(text) {
+        None => None,
+        Some(moment) => second_at(moment),
+    }
+}
+
+/// Reads YYMMDDHHMMSSZ.
+#[tactic(auto, unfolding(crate::specs::DerTime::utc_at))]
+fn read_utc(text: &[u8]) -> Option<Moment>
+    ensures exact { result ≡ utc_at text.now }
+    ensures decimal { IfSome result IsDecimal }
+{
+    let (short, text) = read_two(text)?;
+    read_rest(year_of(short)?, text)
+}
+
 /// Reads MMDDHHMMSSZ.
 #[tactic(auto, unfolding(crate::specs::DerTime::rest_at))]
 fn read_rest(year: u16, text: &[u8]) -> Option<Moment>
@@ -46,14 +85,15 @@ fn year_of(short: u8) -> Option<u16>
     }
 }
 
-/// Reads YYMMDDHHMMSSZ.
-#[tactic(auto, unfolding(crate::specs::DerTime::utc_at))]
-fn read_utc(text: &[u8]) -> Option<Moment>
-    ensures exact { result ≡ utc_at text.now }
-    ensures decimal { IfSome result IsDecimal }
+/// Returns the second since 1970 of a GeneralizedTime.
+fn generalized_second(text: &[u8]) -> Option<i64>
+    ensures found { IfSome result (IsSecondOf (IsGeneralizedTime text.now)) }
+    ensures only { (s : ℤ) → IsSecondOf (IsGeneralizedTime text.now) s → result ≡ Some s }
 {
-    let (short, text) = read_two(text)?;
-    read_rest(year_of(short)?, text)
+    match read_generalized(text) {
+        None => None,
+        Some(moment) => second_at(moment),
+    }
 }
 
 /// Reads YYYYMMDDHHMMSSZ, from 1970 on.
@@ -67,44 +107,4 @@ fn read_generalized(text: &[u8]) -> Option<Moment>
         return None;
     }
     read_rest(year, text)
-}
-
-/// Returns the second since 1970 of a UTCTime.
-fn utc_second(text: &[u8]) -> Option<i64>
-    ensures found { IfSome result (IsSecondOf (IsUtcTime text.now)) }
-    ensures only { (s : ℤ) → IsSecondOf (IsUtcTime text.now) s → result ≡ Some s }
-{
-    match read_utc(text) {
-        None => None,
-        Some(moment) => second_at(moment),
-    }
-}
-
-/// Returns the second since 1970 of a GeneralizedTime.
-fn generalized_second(text: &[u8]) -> Option<i64>
-    ensures found { IfSome result (IsSecondOf (IsGeneralizedTime text.now)) }
-    ensures only { (s : ℤ) → IsSecondOf (IsGeneralizedTime text.now) s → result ≡ Some s }
-{
-    match read_generalized(text) {
-        None => None,
-        Some(moment) => second_at(moment),
-    }
-}
-
-/// Returns the second since 1970 of a UTCTime or a GeneralizedTime (RFC 5280 section 4.1.2.5).
-///
-/// Fails with
-/// - `WrongTag` if the element is neither;
-/// - `Value` if its content is not a time of its kind: YYMMDDHHMMSSZ, where 70 to 99 are 1970 to 1999 and 00 to 49 are
-///   2000 to 2049, or YYYYMMDDHHMMSSZ of the years 1970 to 9999.
-pub fn time_of(element: &Element<'_>) -> Result<i64, DerError>
-    ensures found { IfOk result (IsTimeOf element.now.tag element.now.content.now) }
-    ensures only { (s : ℤ) → IsTimeOf element.now.tag element.now.content.now s → result ≡ Ok s }
-    ensures fault { IfErr result (λ e. e ≡ time_fault element.now.tag) }
-{
-    match element.tag {
-        tag::UTC_TIME => utc_second(element.content).ok_or(DerError::Value),
-        tag::GENERALIZED_TIME => generalized_second(element.content).ok_or(DerError::Value),
-        _ => Err(DerError::WrongTag),
-    }
 }

@@ -31,7 +31,7 @@ use Rattle.sig_dsse.specs.CosignStatement.{cosign_fault, fault_of_subjects, firs
 use Rattle.sig_dsse.specs.CosignStatement.{statement_or_fault, unless_fault}
 use Rattle.sig_dsse.specs.Faults.{ArePayloadDigests, FirstHasSha256, FirstLacksSha256, IsCauseOf, IsCosignCauseOf}
 use Rattle.sig_dsse.specs.Faults.{IsCosignSign, IsCosignStatement, IsPayloadCauseOf, IsStatementV1}
-use Rattle.sig_dsse.specs.Named.{AreTaken}
+use Rattle.sig_dsse.specs.NamedDigest.{AreTaken}
 use Rattle.sig_dsse.specs.Payload.{digests_of_payload}
 use Rattle.sig_dsse.specs.Recognized.{digests_or_fault}
 use Rattle.sig_dsse.specs.Seen.{seen}

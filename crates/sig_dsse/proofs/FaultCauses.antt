@@ -21,7 +21,7 @@ use Rattle.sig_dsse.specs.declared.recognized.SubjectFault.TheVariants.{TooManyS
 use Rattle.sig_dsse.specs.declared.recognized.SubjectFault.TheVariants.{NoneRecognized, OutOfMemory}
 use Rattle.sig_dsse.specs.Faults.{IsFirst, spelling, IsHexDigest, IsMalformed, IsWellFormed, IsSound, HasTooMany}
 use Rattle.sig_dsse.specs.Faults.{HasMalformed, IsCauseOf, DigitsAreOfTheHash, FaultsHaveTheirCause}
-use Rattle.sig_dsse.specs.Named.{named}
+use Rattle.sig_dsse.specs.NamedDigest.{named}
 use Rattle.sig_dsse.specs.Recognized.{digest_or_malformed, digests_of_each, entry_digest, map_digests, not_none}
 use Rattle.sig_dsse.specs.Recognized.{digests_of_maps, digests_or_fault, most_digests}
 use Rattle.sig_dsse.specs.Statement.{DigestTexts, Statement, digest_maps}

@@ -1,5 +1,5 @@
 pub mod EnvelopeTexts
-pub mod Collected
+pub mod CollectedDigests
 pub mod Encodings
 pub mod Equality
 pub mod NamedDigests

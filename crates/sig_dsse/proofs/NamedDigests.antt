@@ -16,8 +16,9 @@ use Rattle.sig_dsse.specs.declared.recognized.DigestName.TheVariants.{Sha256 as 
 use Rattle.sig_dsse.specs.declared.recognized.SubjectFault.{SubjectFault}
 use Rattle.sig_dsse.specs.declared.recognized.SubjectFault.TheVariants.{TooManySubjects, TooManyDigests}
 use Rattle.sig_dsse.specs.declared.recognized.SubjectFault.TheVariants.{NoneRecognized}
-use Rattle.sig_dsse.specs.Named.{is_known, named, IsWithinLimits, IsEntryOf, AreEntriesOf, AreTaken, TakesTheNamed}
-use Rattle.sig_dsse.specs.Named.{FindsNone}
+use Rattle.sig_dsse.specs.NamedDigest.{is_known, named, IsWithinLimits, IsEntryOf, AreEntriesOf, AreTaken}
+use Rattle.sig_dsse.specs.NamedDigest.{TakesTheNamed}
+use Rattle.sig_dsse.specs.NamedDigest.{FindsNone}
 use Rattle.sig_dsse.specs.Recognized.{digest_or_malformed, digests_of_each, entry_digest, map_digests, not_none}
 use Rattle.sig_dsse.specs.Recognized.{digests_of_maps, digests_or_fault, most_digests, most_subjects}
 use Rattle.sig_dsse.specs.Statement.{DigestTexts, Statement, digest_maps}

@@ -18,7 +18,7 @@ use Rattle.sig_dsse.specs.declared.recognized.SubjectFault.{SubjectFault}
 use Rattle.sig_dsse.specs.declared.recognized.SubjectFault.TheVariants.{TooManySubjects, TooManyDigests, Malformed}
 use Rattle.sig_dsse.specs.declared.recognized.SubjectFault.TheVariants.{NoneRecognized, OutOfMemory}
 use Rattle.sig_dsse.specs.CosignStatement.{cosign_fault}
-use Rattle.sig_dsse.specs.Named.{AreTaken, named}
+use Rattle.sig_dsse.specs.NamedDigest.{AreTaken, named}
 use Rattle.sig_dsse.specs.Payload.{digests_of_payload}
 use Rattle.sig_dsse.specs.Recognized.{digests_or_fault}
 use Rattle.sig_dsse.specs.Statement.{DigestTexts, Subject, Statement, digest_maps, statement_of}

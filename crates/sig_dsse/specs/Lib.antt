@@ -8,7 +8,7 @@ pub mod SaidMembers
 pub mod StatementText
 pub mod Seen
 pub mod Recognized
-pub mod Named
+pub mod NamedDigest
 pub mod Faults
 pub mod Payload
 pub mod DigestsAlone

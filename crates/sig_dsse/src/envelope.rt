@@ -17,7 +17,7 @@ pub struct DsseEnvelope {
 /// A signature of an envelope.
 #[derive(Drop, PartialEq, Eq)]
 pub struct DsseSignature {
-    /// The signature itself.
+    /// The signature over the pre-authentication encoding, not its base64.
     pub sig: Bytes,
     /// A hint at the key that signed; nobody has to believe it.
     pub keyid: Text,

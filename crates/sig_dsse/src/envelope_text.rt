@@ -32,25 +32,18 @@ pub fn envelope_json(alloc: Global, envelope: &DsseEnvelope) -> Result<Text, Out
     Ok(Text::from(braced(alloc, &members)?))
 }
 
-/// The JSON of a signature, if one without parts is at hand.
-fn sparse_json(
+/// Adds the member of some bytes, unless there are none.
+fn push_bytes(
     alloc: Global,
-    signature: &SparseSignature,
-    empty: &DsseSignature,
-) -> Result<String, OutOfMemory>
-    requires { empty.now ≡ no_parts }
-    ensures { IfOk result (λ text. string_bytes text ≡ envelope_signature_text signature.now) }
+    members: &mut Vec<String>,
+    name: &str,
+    bytes: &[u8],
+) -> Result<(), OutOfMemory>
+    ensures { OnOk result (texts_of members.new.items
+        ≡ texts_of members.old.items ++ bytes_member name.now bytes.now) }
 {
-    signature_json(alloc, signature.get(empty))
-}
-
-fn signature_json(alloc: Global, signature: &DsseSignature) -> Result<String, OutOfMemory>
-    ensures { IfOk result (λ text. string_bytes text ≡ envelope_signature_text signature.now) }
-{
-    let mut members = Vec::new(alloc);
-    push_bytes(alloc, &mut members, "sig", signature.sig.as_slice())?;
-    push_text(alloc, &mut members, "keyid", signature.keyid.as_str())?;
-    braced(alloc, &members)
+    let text = Text::in_base64(alloc, bytes)?;
+    push_text(alloc, members, name, text.as_str())
 }
 
 /// Adds the member of a text, unless it is empty.
@@ -69,20 +62,6 @@ fn push_text(
     let value = quoted(alloc, text)?;
     members.push(member_json(alloc, name, value.as_str())?)?;
     Ok(())
-}
-
-/// Adds the member of some bytes, unless there are none.
-fn push_bytes(
-    alloc: Global,
-    members: &mut Vec<String>,
-    name: &str,
-    bytes: &[u8],
-) -> Result<(), OutOfMemory>
-    ensures { OnOk result (texts_of members.new.items
-        ≡ texts_of members.old.items ++ bytes_member name.now bytes.now) }
-{
-    let text = Text::in_base64(alloc, bytes)?;
-    push_text(alloc, members, name, text.as_str())
 }
 
 /// Adds the member of the signatures, unless there are none.
@@ -121,6 +100,27 @@ fn signature_texts(alloc: Global, signatures: &DsseSignatures) -> Result<Vec<Str
         texts.push(sparse_json(alloc, signature, signatures.empty())?)?;
     }
     Ok(texts)
+}
+
+/// The JSON of a signature, if one without parts is at hand.
+fn sparse_json(
+    alloc: Global,
+    signature: &SparseSignature,
+    empty: &DsseSignature,
+) -> Result<String, OutOfMemory>
+    requires { empty.now ≡ no_parts }
+    ensures { IfOk result (λ text. string_bytes text ≡ envelope_signature_text signature.now) }
+{
+    signature_json(alloc, signature.get(empty))
+}
+
+fn signature_json(alloc: Global, signature: &DsseSignature) -> Result<String, OutOfMemory>
+    ensures { IfOk result (λ text. string_bytes text ≡ envelope_signature_text signature.now) }
+{
+    let mut members = Vec::new(alloc);
+    push_bytes(alloc, &mut members, "sig", signature.sig.as_slice())?;
+    push_text(alloc, &mut members, "keyid", signature.keyid.as_str())?;
+    braced(alloc, &members)
 }
 
 /// A member: its name in quotation marks, a colon, and the text of its value.

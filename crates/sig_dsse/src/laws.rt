@@ -4,7 +4,7 @@ ghost use Rattle.sig_dsse.specs.Digest.{digest_algorithm, digest_bytes};
 ghost use Rattle.sig_dsse.specs.Faults.{DigitsAreOfTheHash, FaultsHaveTheirCause, PayloadFaultsHaveTheirCause};
 ghost use Rattle.sig_dsse.specs.Faults.{CosignFaultsHaveTheirCause};
 ghost use Rattle.sig_dsse.specs.Pae.{PaeIsInjective};
-ghost use Rattle.sig_dsse.specs.Named.{TakesTheNamed, FindsNone};
+ghost use Rattle.sig_dsse.specs.NamedDigest.{TakesTheNamed, FindsNone};
 
 use crate::artifact_digest::ArtifactDigest;
 use crate::envelope::{DsseEnvelope, DsseSignature};

@@ -79,7 +79,7 @@ fn take(alloc: Global, payload: &[u8]) -> Result<Digests, PayloadFault>
     Ok(digests_of_maps(alloc, subjects)?)
 }
 
-/// The digests of each subject of the statement that a payload is. Fails with `NoStatement` where it is none.
+/// The digests of each subject of the statement that a payload is. Fails with `NoStatement` where it is not one.
 #[tactic(auto, using(crate::proofs::DigestsAlone::of_record))]
 fn read_maps(alloc: Global, payload: &[u8]) -> Result<OwnedList<TextMap>, PayloadFault>
     ensures { Answers PayloadFault.OutOfMemory (λ maps. maps) result (digest_maps_of payload.now) }

@@ -3,7 +3,7 @@ ghost use Rattle.std.specs.Prelude.{◌≡◌, ◌≢◌, ◌++◌, [], ◌∷�
 ghost use Rattle.sig_base.specs.Answers.{Answers, ComesWhere};
 ghost use Rattle.sig_dsse.specs.Collecting.{AddsDigests, listing};
 ghost use Rattle.sig_dsse.specs.Faults.{IsCauseOf};
-ghost use Rattle.sig_dsse.specs.Named.{AreTaken};
+ghost use Rattle.sig_dsse.specs.NamedDigest.{AreTaken};
 ghost use Rattle.sig_dsse.specs.declared.artifact_digest.ArtifactDigest.{ArtifactDigest as digest_type};
 ghost use Rattle.sig_dsse.specs.declared.recognized.SubjectFault.{SubjectFault as fault_type};
 ghost use Rattle.sig_dsse.specs.Recognized.{digests_or_fault, digests_of_maps, digests_of_each, map_digests};
@@ -27,9 +27,9 @@ const MOST_DIGESTS: usize = 32;
 /// The name of a digest that an artifact can be compared with.
 #[derive(Clone, Copy, Debug, PartialEq, Eq)]
 pub enum DigestName {
-    /// `sha256`.
+    /// `sha256`, of 32 bytes.
     Sha256,
-    /// `sha512`.
+    /// `sha512`, of 64 bytes.
     Sha512,
 }
 
@@ -87,7 +87,7 @@ pub fn recognized_digests(
 }
 
 /// The same in one equation.
-#[tactic(auto, using(crate::proofs::Collected::statement_seen))]
+#[tactic(auto, using(crate::proofs::CollectedDigests::statement_seen))]
 fn recognize(alloc: Global, statement: &InTotoStatementV1) -> Result<Digests, SubjectFault>
     ensures { Answers SubjectFault.OutOfMemory (λ digests. digests) result (digests_or_fault (seen statement.now)) }
 {
@@ -95,7 +95,7 @@ fn recognize(alloc: Global, statement: &InTotoStatementV1) -> Result<Digests, Su
 }
 
 /// The digests of subjects, by the rules of [`recognized_digests`].
-#[tactic(auto, using(crate::proofs::Collected::recognized))]
+#[tactic(auto, using(crate::proofs::CollectedDigests::recognized))]
 pub(crate) fn digests_of_maps(
     alloc: Global,
     subjects: SubjectDigests<'_>,
@@ -113,7 +113,7 @@ pub(crate) fn digests_of_maps(
 }
 
 /// The digests of each map one after another.
-#[tactic(auto, using(crate::proofs::Collected::collected))]
+#[tactic(auto, using(crate::proofs::CollectedDigests::collected))]
 fn digests_of_subjects(alloc: Global, subjects: SubjectDigests<'_>) -> Result<Digests, SubjectFault>
     ensures { Answers SubjectFault.OutOfMemory (λ digests. digests) result
         (digests_of_each map_digests subjects.entry) }
@@ -137,7 +137,7 @@ fn push_digests(digest: &TextMap, digests: &mut Digests) -> Result<(), SubjectFa
     push_entries(digest, digests)
 }
 
-#[tactic(auto, using(crate::proofs::Collected::collected))]
+#[tactic(auto, using(crate::proofs::CollectedDigests::collected))]
 fn push_entries(digest: &TextMap, digests: &mut Digests) -> Result<(), SubjectFault>
     ensures { AddsDigests digests.old digests.new result (digests_of_each entry_digest digest.now) }
 {

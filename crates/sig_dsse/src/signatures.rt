@@ -59,17 +59,6 @@ impl DsseSignature {
     }
 }
 
-/// Whether both parts of a signature are empty.
-#[tactic(auto, using(crate::proofs::Equality::signature_same))]
-fn is_without_parts(alloc: Global, signature: &DsseSignature) -> bool
-    ensures { IsTrue result → signature.now ≡ no_parts }
-{
-    let empty = DsseSignature::without_parts(alloc);
-    let is_same = *signature == empty;
-    drop(empty);
-    is_same
-}
-
 impl SparseSignature {
     /// The same signature. Fails only if out of memory.
     pub fn new(alloc: Global, signature: DsseSignature) -> Result<SparseSignature, OutOfMemory>
@@ -98,6 +87,17 @@ impl SparseSignature {
             None => empty,
         }
     }
+}
+
+/// Whether both parts of a signature are empty.
+#[tactic(auto, using(crate::proofs::Equality::signature_same))]
+fn is_without_parts(alloc: Global, signature: &DsseSignature) -> bool
+    ensures { IsTrue result → signature.now ≡ no_parts }
+{
+    let empty = DsseSignature::without_parts(alloc);
+    let is_same = *signature == empty;
+    drop(empty);
+    is_same
 }
 
 impl PartialEq for SparseSignature {

@@ -48,13 +48,6 @@ const STATEMENT_V1: &str = "https://in-toto.io/Statement/v1";
 /// The predicate of a signature by `cosign`.
 const COSIGN_SIGN_V1: &str = "https://sigstore.dev/cosign/sign/v1";
 
-/// The error for a statement that is not of the form that is wanted.
-fn unexpected(kind: UnexpectedKind) -> SigstoreError
-    ensures { result ≡ UnexpectedError kind }
-{
-    SigstoreError::UnexpectedError(kind)
-}
-
 impl InTotoStatementV1 {
     ghost use Rattle.std.specs.Prelude.{◌≡◌, ◌⊎◌, ◌↔◌, ℕ, List, [], map};
     ghost use Rattle.sig_base.specs.Answers.{Answers, ComesWhere};
@@ -132,4 +125,11 @@ impl InTotoStatementV1 {
             None => Err(unexpected(UnexpectedKind::FirstSubjectWithoutSha256)),
         }
     }
+}
+
+/// The error for a statement that is not of the form that is wanted.
+fn unexpected(kind: UnexpectedKind) -> SigstoreError
+    ensures { result ≡ UnexpectedError kind }
+{
+    SigstoreError::UnexpectedError(kind)
 }

@@ -10,7 +10,7 @@ use Rattle.sig_policy.specs.Single.{is_asked_text, single_refusal}
 use Rattle.sig_policy.specs.declared.failure.PolicyError.{PolicyError, out-PolicyError}
 use Rattle.sig_policy.specs.declared.request.LeafPolicy.{LeafPolicy}
 use Rattle.sig_policy.specs.declared.request.LeafPolicy.TheVariants as leaf
-use Rattle.sig_explanation.specs.Kept.{inner_policy_rows}
+use Rattle.sig_explanation.specs.KeptRows.{inner_policy_rows}
 use Rattle.sig_evidence.specs.Rules.{judgement, judgement_rows, refused_rows}
 
 -- the refusal is of no list

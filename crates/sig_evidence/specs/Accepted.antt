@@ -5,9 +5,9 @@ use Rattle.std.specs.Str.{bytes_eq}
 use Rattle.sig_base.specs.Scheme.{name_of}
 use Rattle.sig_base.specs.declared.checker.AcceptedRow.{AcceptedRow}
 use Rattle.sig_base.specs.declared.scheme.VerifyScheme.{VerifyScheme}
-use Rattle.sig_bundle.specs.Written.{TreeMember}
+use Rattle.sig_json.specs.Writing.{TreeMember}
 use Rattle.sig_rekor.specs.declared.checkpoint.CheckpointSignature.{CheckpointSignature}
-use Rattle.sig_shown.specs.Shown.{sha256_tree, text_row, texts_row}
+use Rattle.sig_shown.specs.ShownValues.{sha256_tree, text_row, texts_row}
 
 abbrev pub has_key : List AcceptedRow → List ℕ → Bool
 has_key rows key = list_any (λ row. bytes_eq row.key key) rows

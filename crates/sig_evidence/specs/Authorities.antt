@@ -1,9 +1,9 @@
 -- The certificate authorities of a trusted root.
 use Rattle.std.specs.Prelude.{ℕ, ℤ, List, [], ◌∷◌, codes, length, take, unwrap_or, Some}
-use Rattle.sig_bundle.specs.Written.{TreeMember, list_tree, object_of}
+use Rattle.sig_json.specs.Writing.{TreeMember, list_tree, object_of}
 use Rattle.sig_json.specs.Data.{Data}
 use Rattle.sig_root.specs.declared.record.CertificateAuthority.{CertificateAuthority}
-use Rattle.sig_shown.specs.Shown.{count_row, text_row}
+use Rattle.sig_shown.specs.ShownValues.{count_row, text_row}
 use Rattle.sig_evidence.specs.Logs.{range_rows, state_name}
 
 -- how many certificates an authority has, and its range, at a time

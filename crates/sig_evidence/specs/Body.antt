@@ -7,7 +7,7 @@ use Rattle.hex.specs.Hex.{encode_lower}
 use Rattle.sig_base.specs.Base64.{base64_text}
 use Rattle.sig_base.specs.OptionSteps.{◌>>=◌, or_else}
 use Rattle.sig_base.specs.Sha256.{sha256}
-use Rattle.sig_bundle.specs.Written.{TreeMember}
+use Rattle.sig_json.specs.Writing.{TreeMember}
 use Rattle.sig_certificate.specs.Pem.{pem_of}
 use Rattle.sig_checked_bundle.specs.Checked.{Checked}
 use Rattle.sig_checked_bundle.specs.declared.content_check.CheckedContent.{CheckedContent}
@@ -19,7 +19,7 @@ use Rattle.sig_json.specs.Document.{document_of}
 use Rattle.sig_json.specs.Find.{as_str, at, get}
 use Rattle.sig_json.specs.Member.{required_hash}
 use Rattle.sig_json.specs.declared.error.DocumentError.{DocumentError}
-use Rattle.sig_shown.specs.Shown.{text_row}
+use Rattle.sig_shown.specs.ShownValues.{text_row}
 use Rattle.sig_evidence.specs.declared.body.Part.{Part}
 
 -- ---- parts
@@ -171,7 +171,7 @@ part_rows (Some part) =
     ∷ (codes "got", short part.got)
     ∷ []
 
--- a body that is no document has no parts
+-- a body that is not a document has no parts
 abbrev pub difference_rows : Checked → ArtifactDigest → Result Data DocumentError → List TreeMember
 difference_rows c digest (Ok d) = part_rows (body_difference c digest d)
 difference_rows c digest (Err why) = text_row (codes "part") (codes "json") ∷ []

@@ -1,12 +1,12 @@
 -- What a bundle has of the links `time` and `subject`.
 use Rattle.std.specs.Prelude.{ℕ, List, [], ◌∷◌, codes, length, take, Some}
-use Rattle.sig_bundle.specs.Written.{TreeMember, list_tree}
+use Rattle.sig_json.specs.Writing.{TreeMember, list_tree}
 use Rattle.sig_certificate.specs.Certificate.{Cert}
 use Rattle.sig_checked_bundle.specs.Checked.{Checked}
 use Rattle.sig_checked_bundle.specs.declared.content_check.CheckedContent.{CheckedContent}
 use Rattle.sig_checked_bundle.specs.declared.content_check.CheckedContent.TheVariants.{Dsse, MessageSignature}
 use Rattle.sig_dsse.specs.declared.artifact_digest.ArtifactDigest.{ArtifactDigest}
-use Rattle.sig_shown.specs.Shown.{count_row, digest_tree, time_row}
+use Rattle.sig_shown.specs.ShownValues.{count_row, digest_tree, time_row}
 
 -- the first and the last second at which a certificate is valid
 abbrev pub validity_rows : Cert → List TreeMember

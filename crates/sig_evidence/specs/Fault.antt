@@ -1,7 +1,7 @@
 -- The member of a document that breaks a table.
 use Rattle.std.specs.Prelude.{ℕ, List, [], ◌∷◌, ◌++◌, codes}
-use Rattle.sig_bundle.specs.Written.{TreeMember}
-use Rattle.sig_shown.specs.Shown.{shown_rows, text_row}
+use Rattle.sig_json.specs.Writing.{TreeMember}
+use Rattle.sig_shown.specs.ShownValues.{shown_rows, text_row}
 use Rattle.sig_table.specs.PathText.{path_text}
 use Rattle.sig_table.specs.declared.fault.Cause.{Cause}
 use Rattle.sig_table.specs.declared.fault.Cause.TheVariants.{Absent, BeyondRange, NotAlone, OtherKind}

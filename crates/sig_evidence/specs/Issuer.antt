@@ -2,10 +2,10 @@
 use Rattle.std.specs.Prelude.{ℕ, ◌+◌, List, [], ◌∷◌, ◌++◌, codes, length, take, Some, if◌then◌else◌}
 use Rattle.std.specs.Str.{bytes_eq}
 use Rattle.hex.specs.Hex.{encode_lower}
-use Rattle.sig_bundle.specs.Written.{TreeMember, list_tree}
+use Rattle.sig_json.specs.Writing.{TreeMember, list_tree}
 use Rattle.sig_certificate.specs.Certificate.{Cert}
 use Rattle.sig_name.specs.NameText.{name_text}
-use Rattle.sig_shown.specs.Shown.{count_row, count_tree, shown_rows, some_rows}
+use Rattle.sig_shown.specs.ShownValues.{count_row, count_tree, shown_rows, some_rows}
 
 abbrev pub place_if : ℕ → List ℕ → Cert → List ℕ
 place_if place name anchor = if bytes_eq anchor.subject name then place ∷ [] else []

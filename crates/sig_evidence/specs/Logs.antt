@@ -2,7 +2,7 @@
 use Rattle.std.specs.Prelude.{ℕ, ℤ, pos, ◌/◌, List, [], ◌∷◌, ◌++◌, codes, take, Option, Some, None, option_map}
 use Rattle.std.specs.Prelude.{Result, Ok, Err, if◌then◌else◌}
 use Rattle.hex.specs.Hex.{encode_lower}
-use Rattle.sig_bundle.specs.Written.{TreeMember, list_tree, object_of}
+use Rattle.sig_json.specs.Writing.{TreeMember, list_tree, object_of}
 use Rattle.sig_json.specs.Data.{Data}
 use Rattle.sig_root.specs.Picked.{has_begun, holds}
 use Rattle.sig_root.specs.declared.record.PublicKey.{PublicKey}
@@ -11,7 +11,7 @@ use Rattle.sig_root.specs.declared.record.TransparencyLogInstance.{TransparencyL
 use Rattle.sig_timestamp.specs.SctList.{Sct}
 use Rattle.sig_timestamp.specs.declared.sct_error.CertificateErrorKind.{CertificateErrorKind}
 use Rattle.sig_timestamp.specs.declared.signed.DigitallySigned.{DigitallySigned}
-use Rattle.sig_shown.specs.Shown.{count_row, sha256_tree, shown_rows, text_row, time_row, time_tree}
+use Rattle.sig_shown.specs.ShownValues.{count_row, sha256_tree, shown_rows, text_row, time_row, time_tree}
 
 -- ---- a trusted root
 

@@ -1,6 +1,6 @@
 -- The rules of a policy, and what a certificate says to each.
 use Rattle.std.specs.Prelude.{ℕ, List, [], ◌∷◌, codes, length, take, Option, Some, None, if◌then◌else◌}
-use Rattle.sig_bundle.specs.Written.{TreeMember, list_tree, object_of}
+use Rattle.sig_json.specs.Writing.{TreeMember, list_tree, object_of}
 use Rattle.sig_certificate.specs.Certificate.{Cert}
 use Rattle.sig_json.specs.Data.{Data}
 use Rattle.sig_policy.specs.Refusals.{Refusal, not_found, check_failed, all_of, any_of}
@@ -9,8 +9,8 @@ use Rattle.sig_policy.specs.declared.request.LeafPolicy.{LeafPolicy}
 use Rattle.sig_policy.specs.declared.request.LeafPolicy.TheVariants as leaf
 use Rattle.sig_policy.specs.declared.request.RequestPolicy.{RequestPolicy}
 use Rattle.sig_policy.specs.declared.request.RequestPolicy.TheVariants as request
-use Rattle.sig_explanation.specs.Kept.{comparison_rows}
-use Rattle.sig_shown.specs.Shown.{count_row, text_row, texts_row}
+use Rattle.sig_explanation.specs.KeptRows.{comparison_rows}
+use Rattle.sig_shown.specs.ShownValues.{count_row, text_row, texts_row}
 
 -- the name that a request has for it
 abbrev pub rule_name : LeafPolicy → List ℕ
@@ -22,7 +22,7 @@ rule_name (leaf.GitHubWorkflowRepository _) = codes "repository"
 rule_name (leaf.GitHubWorkflowRef _) = codes "ref"
 rule_name (leaf.Identity _) = codes "identity"
 
--- why a rule does not hold: there is no such text, or another; a rule is no list
+-- why a rule does not hold: there is no such text, or another; a rule is not a list
 abbrev pub refused_rows : Refusal → List TreeMember
 refused_rows not_found = texts_row (codes "cause") (codes "ExtensionNotFound" ∷ []) ∷ []
 refused_rows (check_failed name asked actual) =

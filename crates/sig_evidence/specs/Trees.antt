@@ -1,11 +1,11 @@
 -- What an inclusion proof and the note of its checkpoint say of a tree.
 use Rattle.std.specs.Prelude.{List, [], ◌∷◌, ◌++◌, codes, Some, option_map}
 use Rattle.hex.specs.Hex.{encode_lower}
-use Rattle.sig_bundle.specs.Written.{TreeMember, integer_tree, object_of}
+use Rattle.sig_json.specs.Writing.{TreeMember, integer_tree, object_of}
 use Rattle.sig_json.specs.Data.{Data}
 use Rattle.sig_rekor.specs.declared.checkpoint.Checkpoint.{Checkpoint}
 use Rattle.sig_rekor.specs.declared.inclusion_proof.InclusionProof.{InclusionProof}
-use Rattle.sig_shown.specs.Shown.{count_row, shown_rows, text_row}
+use Rattle.sig_shown.specs.ShownValues.{count_row, shown_rows, text_row}
 
 unfoldable pub proof_tree : InclusionProof → Data
 proof_tree proof =

@@ -4,14 +4,13 @@
 //! {"certificateAuthorities":[{"certificateCount":"2","start":{..},"state":"not begun"}],"certificateAuthorityCount":"1"}
 //! ```
 ghost use Rattle.std.specs.Prelude.{◌≡◌, [], IfOk, length, unwrap_or};
-ghost use Rattle.sig_bundle.specs.Written.{list_tree, members, members_into};
+ghost use Rattle.sig_json.specs.Writing.{list_tree, members, members_into};
 ghost use Rattle.sig_evidence.specs.Authorities.{authorities_rows, authority_rows, authority_tree};
 ghost use Rattle.sig_json.specs.Tree.{document_tree};
 
 use crate::logs::{state_name, with_range};
 use sig_base::{Entries, OutOfMemory};
-use sig_bundle::Object;
-use sig_json::Document;
+use sig_json::{Document, Object};
 use sig_root::{SparseAuthority, TimeRange};
 use sig_shown::{first, with_count};
 use std::alloc::Global;
@@ -19,31 +18,56 @@ use std::alloc::Global;
 /// How many certificate authorities of a trusted root are shown at most.
 pub const MOST_AUTHORITIES: usize = 256;
 
-/// How many certificates there are.
-fn certificate_count(chain: &Option<Entries>) -> usize
-    ensures { result ≡ length (unwrap_or chain.now []) }
-{
-    match chain {
-        Some(chain) => chain.len(),
-        None => 0,
-    }
-}
-
-/// The object with how many certificates an authority has, and its range.
-fn with_authority(
+/// The object with what the link `fulcio` looks at: `certificateAuthorities`, the first [`MOST_AUTHORITIES`] of the
+/// trusted root in order, each with `certificateCount`, how many certificates it has, and of its range `state`, which is
+/// `holds`, `ended` or `not begun` at this second since 1970, `start` and `end`; and `certificateAuthorityCount`, how
+/// many there are. Fails only if out of memory.
+pub fn with_authorities(
     object: Object,
     alloc: Global,
-    chain: &Option<Entries>,
-    valid_for: &Option<TimeRange>,
+    authorities: &[SparseAuthority],
     now: &i64,
 ) -> Result<Object, OutOfMemory>
-    ensures { IfOk result (λ made. members made ≡ members_into (members object)
-        (authority_rows now.now (record { cert_chain = chain.now; valid_for = valid_for.now }))) }
+    ensures { IfOk result (λ made. members made
+        ≡ members_into (members object) (authorities_rows now.now authorities.now)) }
 {
-    let count = certificate_count(chain);
-    let object = with_count(object, alloc, "certificateCount", count as u64)?;
-    let object = object.with_text(alloc, "state", state_name(valid_for, now))?;
-    with_range(object, alloc, valid_for)
+    let shown = first(authorities, MOST_AUTHORITIES);
+    let value = authorities_document(alloc, shown, now)?;
+    let object = object.with(alloc, "certificateAuthorities", value)?;
+    with_count(
+        object,
+        alloc,
+        "certificateAuthorityCount",
+        authorities.len() as u64,
+    )
+}
+
+/// Authorities at a time.
+fn authorities_document(
+    alloc: Global,
+    authorities: &[SparseAuthority],
+    now: &i64,
+) -> Result<Document, OutOfMemory>
+    ensures { IfOk result (λ document. document_tree document ≡ list_tree (authority_tree now.now) authorities.now) }
+{
+    let mut list = Document::list(alloc);
+    'authorities: for authority in authorities {
+        list.push(authority_document(alloc, authority, now)?)?;
+    }
+    Ok(list)
+}
+
+/// An authority at a time.
+#[tactic(auto, unfolding(crate::specs::Authorities::authority_tree))]
+fn authority_document(
+    alloc: Global,
+    authority: &SparseAuthority,
+    now: &i64,
+) -> Result<Document, OutOfMemory>
+    ensures { IfOk result (λ document. document_tree document ≡ authority_tree now.now authority.now) }
+{
+    let object = with_sparse(Object::new(alloc), alloc, authority, now)?;
+    Ok(object.into_document())
 }
 
 /// The object with an authority, of which every member may be absent.
@@ -68,54 +92,29 @@ fn with_sparse(
     }
 }
 
-/// An authority at a time.
-#[tactic(auto, unfolding(crate::specs::Authorities::authority_tree))]
-fn authority_document(
-    alloc: Global,
-    authority: &SparseAuthority,
-    now: &i64,
-) -> Result<Document, OutOfMemory>
-    ensures { IfOk result (λ document. document_tree document ≡ authority_tree now.now authority.now) }
-{
-    let object = with_sparse(Object::new(alloc), alloc, authority, now)?;
-    Ok(object.into_document())
-}
-
-/// Authorities at a time.
-fn authorities_document(
-    alloc: Global,
-    authorities: &[SparseAuthority],
-    now: &i64,
-) -> Result<Document, OutOfMemory>
-    ensures { IfOk result (λ document. document_tree document ≡ list_tree (authority_tree now.now) authorities.now) }
-{
-    let mut list = Document::list(alloc);
-    'authorities: for authority in authorities {
-        list.push(authority_document(alloc, authority, now)?)?;
-    }
-    Ok(list)
-}
-
-/// The object with what the link `fulcio` looks at: `certificateAuthorities`, the first [`MOST_AUTHORITIES`] of the
-/// trusted root in order, each with `certificateCount`, how many certificates it has, and of its range `state`, which is
-/// `holds`, `ended` or `not begun` at this second since 1970, `start` and `end`; and `certificateAuthorityCount`, how
-/// many there are. Fails only if out of memory.
-pub fn with_authorities(
+/// The object with how many certificates an authority has, and its range.
+fn with_authority(
     object: Object,
     alloc: Global,
-    authorities: &[SparseAuthority],
+    chain: &Option<Entries>,
+    valid_for: &Option<TimeRange>,
     now: &i64,
 ) -> Result<Object, OutOfMemory>
-    ensures { IfOk result (λ made. members made
-        ≡ members_into (members object) (authorities_rows now.now authorities.now)) }
+    ensures { IfOk result (λ made. members made ≡ members_into (members object)
+        (authority_rows now.now (record { cert_chain = chain.now; valid_for = valid_for.now }))) }
 {
-    let shown = first(authorities, MOST_AUTHORITIES);
-    let value = authorities_document(alloc, shown, now)?;
-    let object = object.with(alloc, "certificateAuthorities", value)?;
-    with_count(
-        object,
-        alloc,
-        "certificateAuthorityCount",
-        authorities.len() as u64,
-    )
+    let count = certificate_count(chain);
+    let object = with_count(object, alloc, "certificateCount", count as u64)?;
+    let object = object.with_text(alloc, "state", state_name(valid_for, now))?;
+    with_range(object, alloc, valid_for)
+}
+
+/// How many certificates there are.
+fn certificate_count(chain: &Option<Entries>) -> usize
+    ensures { result ≡ length (unwrap_or chain.now []) }
+{
+    match chain {
+        Some(chain) => chain.len(),
+        None => 0,
+    }
 }

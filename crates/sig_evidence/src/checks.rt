@@ -1,12 +1,13 @@
 //! What a bundle has of the links `time` and `subject`.
 ghost use Rattle.std.specs.Prelude.{◌≡◌, IfOk};
-ghost use Rattle.sig_bundle.specs.Written.{members, members_into};
+ghost use Rattle.sig_json.specs.Writing.{members, members_into};
 ghost use Rattle.sig_evidence.specs.Checks.{content_rows, digests_rows, subject_rows, times_rows, validity_rows};
 
 use sig_base::OutOfMemory;
-use sig_bundle::{ArtifactDigest, Object};
+use sig_bundle::ArtifactDigest;
 use sig_certificate::Certificate;
 use sig_checked_bundle::{CheckedBundle, CheckedContent};
+use sig_json::Object;
 use sig_shown::{ShownDigest, first, with_count, with_digest, with_list, with_time};
 use std::alloc::Global;
 
@@ -43,17 +44,20 @@ pub fn with_times(
     with_validity(object, alloc, bundle.certificate())
 }
 
-/// The object with the first of these digests, and how many there are.
-fn with_digests(
+/// The object with what the link `subject` compares: `digest`, that of the artifact, and of a statement
+/// `subjectDigests`, the first [`MOST_DIGESTS`] SHA-256 and SHA-512 digests of its subjects in order, and
+/// `subjectDigestCount`, how many there are. Fails only if out of memory.
+pub fn with_subjects(
     object: Object,
     alloc: Global,
-    digests: &[ArtifactDigest],
+    bundle: &CheckedBundle,
+    digest: &ArtifactDigest,
 ) -> Result<Object, OutOfMemory>
-    ensures { IfOk result (λ made. members made ≡ members_into (members object) (digests_rows digests.now)) }
+    ensures { IfOk result (λ made. members made
+        ≡ members_into (members object) (subject_rows bundle.now digest.now)) }
 {
-    let shown = first(digests, MOST_DIGESTS);
-    let object = with_list::<ShownDigest>(object, alloc, "subjectDigests", shown)?;
-    with_count(object, alloc, "subjectDigestCount", digests.len() as u64)
+    let object = with_digest(object, alloc, "digest", digest)?;
+    with_content(object, alloc, bundle.content())
 }
 
 /// The object with the digests that a statement's subjects have.
@@ -73,18 +77,15 @@ fn with_content(
     }
 }
 
-/// The object with what the link `subject` compares: `digest`, that of the artifact, and of a statement
-/// `subjectDigests`, the first [`MOST_DIGESTS`] SHA-256 and SHA-512 digests of its subjects in order, and
-/// `subjectDigestCount`, how many there are. Fails only if out of memory.
-pub fn with_subjects(
+/// The object with the first of these digests, and how many there are.
+fn with_digests(
     object: Object,
     alloc: Global,
-    bundle: &CheckedBundle,
-    digest: &ArtifactDigest,
+    digests: &[ArtifactDigest],
 ) -> Result<Object, OutOfMemory>
-    ensures { IfOk result (λ made. members made
-        ≡ members_into (members object) (subject_rows bundle.now digest.now)) }
+    ensures { IfOk result (λ made. members made ≡ members_into (members object) (digests_rows digests.now)) }
 {
-    let object = with_digest(object, alloc, "digest", digest)?;
-    with_content(object, alloc, bundle.content())
+    let shown = first(digests, MOST_DIGESTS);
+    let object = with_list::<ShownDigest>(object, alloc, "subjectDigests", shown)?;
+    with_count(object, alloc, "subjectDigestCount", digests.len() as u64)
 }

@@ -31,4 +31,4 @@ pub use issuer::{MOST_ANCHORS, with_issuer};
 pub use logs::{MOST_LOGS, with_log_id, with_logs};
 pub use rules::{MOST_RULES, with_policy_rules};
 pub use sct::with_sct;
-pub use trees::{with_proof, with_trees};
+pub use trees::{note_document, with_proof, with_trees};

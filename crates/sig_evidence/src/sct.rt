@@ -1,31 +1,15 @@
 //! The log and the time that a certificate's SCT names.
 ghost use Rattle.std.specs.Prelude.{◌≡◌, IfOk, option_map};
-ghost use Rattle.sig_bundle.specs.Written.{members, members_into};
+ghost use Rattle.sig_json.specs.Writing.{members, members_into};
 ghost use Rattle.sig_evidence.specs.Logs.{named_sct, sct_parts, sct_rows};
 ghost use Rattle.sig_timestamp.specs.Timestamps.{sct_of};
 
 use sig_base::OutOfMemory;
-use sig_bundle::Object;
 use sig_certificate::Certificate;
+use sig_json::Object;
 use sig_shown::{with_count, with_time};
 use sig_timestamp::{CertificateEmbeddedSCT, DigitallySigned, SCTError};
 use std::alloc::Global;
-
-/// The one SCT of a certificate; `None` if it has not one.
-fn sct_of(alloc: Global, certificate: &Certificate) -> Result<Option<DigitallySigned>, OutOfMemory>
-    ensures { IfOk result (λ found. option_map sct_parts found ≡ named_sct (sct_of certificate.now)) }
-{
-    // Log and time do not depend on the issuer's key.
-    match CertificateEmbeddedSCT::new_with_verified_path(alloc, certificate, &[]) {
-        Ok(embedded) => {
-            let signed = DigitallySigned::from_embedded(alloc, &embedded);
-            drop(embedded);
-            Ok(Some(signed?))
-        }
-        Err(SCTError::OutOfMemory) => Err(OutOfMemory),
-        Err(_) => Ok(None),
-    }
-}
 
 /// The object with what the one SCT of a certificate names: `logId`, the id of the log in hexadecimal; `timestamp`, in
 /// milliseconds since 1970; and `time`, the second of it in both forms. Without more if the certificate has not one SCT.
@@ -48,4 +32,20 @@ pub fn with_sct(
     let object = with_count(object, alloc, "timestamp", timestamp)?;
     let second = (timestamp / 1000) as i64;
     with_time(object, alloc, "time", &second)
+}
+
+/// The one SCT of a certificate; `None` if it has not one.
+fn sct_of(alloc: Global, certificate: &Certificate) -> Result<Option<DigitallySigned>, OutOfMemory>
+    ensures { IfOk result (λ found. option_map sct_parts found ≡ named_sct (sct_of certificate.now)) }
+{
+    // Log and time do not depend on the issuer's key.
+    match CertificateEmbeddedSCT::new_with_verified_path(alloc, certificate, &[]) {
+        Ok(embedded) => {
+            let signed = DigitallySigned::from_embedded(alloc, &embedded);
+            drop(embedded);
+            Ok(Some(signed?))
+        }
+        Err(SCTError::OutOfMemory) => Err(OutOfMemory),
+        Err(_) => Ok(None),
+    }
 }

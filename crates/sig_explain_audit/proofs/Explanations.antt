@@ -10,8 +10,8 @@ use Rattle.sig_audit.specs.declared.heads.AuditHead.{AuditHead}
 use Rattle.sig_audit_command.specs.Heads.{AreHeads, IsFirstUnread, accepts}
 use Rattle.sig_base.specs.declared.memory.OutOfMemory.{OutOfMemory}
 use Rattle.sig_explain_audit.specs.Audited.{audited_tree}
-use Rattle.sig_explain_audit.specs.Explained.{IsAuditExplanation, IsAuditTree, IsRequestTree}
-use Rattle.sig_explain_audit.specs.Refused.{fault_tree, unread_tree}
+use Rattle.sig_explain_audit.specs.AuditExplanation.{IsAuditExplanation, IsAuditTree, IsRequestTree}
+use Rattle.sig_explain_audit.specs.RefusalRows.{fault_tree, unread_tree}
 use Rattle.sig_explain_log.specs.Request.{request_tree}
 use Rattle.sig_json.specs.Tree.{document_tree}
 use Rattle.sig_json.specs.declared.document.Document.{Document}
@@ -39,7 +39,7 @@ pub no-fault : (text : List ℕ) (found : Option RequestFault) → found ≡ Non
     → ⊥
 no-fault text found none both never = let request = both.0 none in never request.0 request.1
 
--- what was read is no request
+-- what was read is not a request
 pub none-read : (text : List ℕ) (found : Option AuditRequest) → found ≡ None → IsReadFrom audit_request text found
     → (request : AuditRequest) → ¬ IsRequestOf audit_request text request
 none-read text found none read = subst (IsReadFrom audit_request text) none read

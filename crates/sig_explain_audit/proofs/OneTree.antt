@@ -8,8 +8,8 @@ use Rattle.sig_audit_command.proofs.AuditReplies.{not_both}
 use Rattle.sig_audit_command.proofs.Heads.{no_unread, one_list, one_unread}
 use Rattle.sig_audit_command.specs.Heads.{accepts}
 use Rattle.sig_base.proofs.ResultSteps.{err_is}
-use Rattle.sig_explain_audit.specs.Explained.{IsAuditTree, IsRequestTree}
-use Rattle.sig_explain_audit.specs.Refused.{fault_tree, unread_tree}
+use Rattle.sig_explain_audit.specs.AuditExplanation.{IsAuditTree, IsRequestTree}
+use Rattle.sig_explain_audit.specs.RefusalRows.{fault_tree, unread_tree}
 use Rattle.sig_json.specs.Data.{Data}
 use Rattle.sig_request.specs.declared.audit_request.AuditRequest.{AuditRequest}
 

@@ -2,10 +2,10 @@
 use Rattle.std.specs.Prelude.{ℕ, List, [], ◌∷◌, ◌++◌, codes, length, take, Some}
 use Rattle.sig_audit.specs.declared.heads.AuditHead.{AuditHead}
 use Rattle.sig_audit.specs.declared.heads.Watch.{Watch}
-use Rattle.sig_bundle.specs.Written.{TreeMember, list_tree, object_of}
+use Rattle.sig_json.specs.Writing.{TreeMember, list_tree, object_of}
 use Rattle.sig_explain_log.specs.Trees.{head_tree}
 use Rattle.sig_json.specs.Data.{Data}
-use Rattle.sig_shown.specs.Shown.{count_row, sha256_tree, shown_rows}
+use Rattle.sig_shown.specs.ShownValues.{count_row, sha256_tree, shown_rows}
 
 -- how many heads, and how many watched entries, are shown at most
 abbrev pub most_shown : ℕ

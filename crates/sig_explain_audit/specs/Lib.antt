@@ -1,3 +1,3 @@
 pub mod Audited
-pub mod Explained
-pub mod Refused
+pub mod AuditExplanation
+pub mod RefusalRows

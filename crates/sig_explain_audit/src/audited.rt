@@ -5,16 +5,15 @@
 //!  "watched":[{"entrySha256":"..","head":"1","index":"0"}],"watchedCount":"1"}
 //! ```
 ghost use Rattle.std.specs.Prelude.{◌≡◌, IfOk};
-ghost use Rattle.sig_bundle.specs.Written.{members, members_into};
+ghost use Rattle.sig_json.specs.Writing.{members, members_into};
 ghost use Rattle.sig_explain_audit.specs.Audited.{audit_head_tree, audited_tree, origin_rows, watch_tree};
 ghost use Rattle.sig_json.specs.Data.{Data};
 ghost use Rattle.sig_json.specs.Tree.{document_tree};
 
 use sig_audit::{AuditHead, Heads, Watch, WatchList};
 use sig_base::OutOfMemory;
-use sig_bundle::Object;
 use sig_explain_log::head_document;
-use sig_json::Document;
+use sig_json::{Document, Object};
 use sig_shown::{Shown, first, with_count, with_list, with_sha256, with_shown};
 use std::alloc::Global;
 
@@ -51,17 +50,6 @@ impl Shown for ShownWatch {
     }
 }
 
-/// The object with the origin of the first head.
-fn with_origin(object: Object, alloc: Global, heads: &Heads) -> Result<Object, OutOfMemory>
-    ensures { IfOk result (λ made. members made ≡ members_into (members object) (origin_rows heads.now)) }
-{
-    let Some((first, _later)) = heads.as_slice().split_first() else {
-        return Ok(object);
-    };
-    let origin = first.checkpoint.note.origin.as_str();
-    with_shown(object, alloc, "origin", "originLength", origin)
-}
-
 /// What is shown of an audited log: the `origin` of its heads; `headCount` and `watchedCount`, how many heads and watched
 /// entries there are; and the first [`MOST_SHOWN`] of each. Fails only if out of memory.
 #[tactic(auto, unfolding(crate::specs::Audited::audited_tree))]
@@ -80,4 +68,15 @@ pub(crate) fn audited_document(
     let object = with_list::<ShownWatch>(object, alloc, "watched", shown)?;
     let object = with_origin(object, alloc, heads)?;
     Ok(object.into_document())
+}
+
+/// The object with the origin of the first head.
+fn with_origin(object: Object, alloc: Global, heads: &Heads) -> Result<Object, OutOfMemory>
+    ensures { IfOk result (λ made. members made ≡ members_into (members object) (origin_rows heads.now)) }
+{
+    let Some((first, _later)) = heads.as_slice().split_first() else {
+        return Ok(object);
+    };
+    let origin = first.checkpoint.note.origin.as_str();
+    with_shown(object, alloc, "origin", "originLength", origin)
 }

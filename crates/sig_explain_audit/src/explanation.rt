@@ -1,6 +1,6 @@
 //! The explanation of an audit.
 ghost use Rattle.std.specs.Prelude.{IfOk};
-ghost use Rattle.sig_explain_audit.specs.Explained.{IsAuditExplanation, IsAuditTree, IsRequestTree};
+ghost use Rattle.sig_explain_audit.specs.AuditExplanation.{IsAuditExplanation, IsAuditTree, IsRequestTree};
 ghost use Rattle.sig_json.specs.Tree.{document_tree};
 ghost use Rattle.sig_request.specs.AuditRequest.{audit_request};
 ghost use Rattle.sig_request.specs.ReadFrom.{IsRequestOf};

@@ -3,9 +3,9 @@ use Rattle.std.proofs.Common.{◌≡◌, ◌↔◌, ℕ, ℤ, ◌+◌, ◌<◌, 
 use Rattle.std.proofs.Common.{refl, subst, ap, ◌∙◌}
 use Rattle.std.proofs.lemmas.List.{take_all}
 use Rattle.std.specs.List.{AllZip}
-use Rattle.sig_base.proofs.Zipped.{zip_more}
+use Rattle.sig_base.proofs.PairedLists.{zip_more}
 use Rattle.sig_base.specs.ByText.{text_lookup}
-use Rattle.sig_bundle.proofs.Lists.{list_tree-append}
+use Rattle.sig_json.proofs.WrittenLists.{list_tree-append}
 use Rattle.sig_explain_gate.specs.Artifact.{AreFound, IsArtifactTree, IsBundleTree, IsGateTree, IsListOf, artifact_tree}
 use Rattle.sig_explain_gate.specs.Artifact.{artifacts_tree, inputs_with, trees_list}
 use Rattle.sig_explain_gate.specs.Bundle.{IsBundleShown}
@@ -16,7 +16,7 @@ use Rattle.sig_gate.proofs.Zips.{zip-all, zip-viewed}
 use Rattle.sig_gate.specs.BundleVerdict.{IsBundleVerdict}
 use Rattle.sig_gate.specs.Gate.{IsDecided}
 use Rattle.sig_gate.specs.RuleHolds.{IsAdmitted}
-use Rattle.sig_gate.specs.Shown.{entries_of}
+use Rattle.sig_gate.specs.VerifiedBundles.{entries_of}
 use Rattle.sig_gate.specs.declared.verdict.BundleVerdict.{BundleVerdict}
 use Rattle.sig_gate_command.specs.Reply.{checker_with}
 use Rattle.sig_json.specs.Builders.{with_last}
@@ -28,7 +28,7 @@ use Rattle.sig_manifest.specs.Read.{Parts}
 use Rattle.sig_manifest.specs.declared.artifact.Artifact.{Artifact}
 use Rattle.sig_policy.specs.declared.request.RequestPolicy.{RequestPolicy}
 
--- a tree behind others
+-- a tree after others
 pub pushed : (trees : List Data) (tree before after : Data) → before ≡ trees_list trees → after ≡ with_last tree before
     → after ≡ trees_list (trees ++ tree ∷ [])
 pushed trees tree before after so_far grown =

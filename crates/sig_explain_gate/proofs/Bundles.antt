@@ -7,7 +7,7 @@ use Rattle.sig_base.specs.Rules.{FailsFirst}
 use Rattle.sig_explain_gate.specs.Bundle.{IsBundleShown, IsFoundHere, IsRefusedHere, chain_inputs, chain_outside}
 use Rattle.sig_explain_gate.specs.declared.bundle.Finding.{Finding}
 use Rattle.sig_explain_verify.specs.Inputs.{Inputs as Explained}
-use Rattle.sig_explain_verify.specs.Refused.{IsRefusedTree}
+use Rattle.sig_explain_verify.specs.RefusedTree.{IsRefusedTree}
 use Rattle.sig_explain_verify.specs.Verified.{IsVerifiedTree}
 use Rattle.sig_gate.specs.declared.verdict.BundleVerdict.{BundleVerdict}
 use Rattle.sig_gate.specs.declared.verdict.BundleVerdict.TheVariants.{Verified, Refused}

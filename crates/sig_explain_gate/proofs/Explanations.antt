@@ -5,7 +5,7 @@ use Rattle.std.proofs.lemmas.Result.{IfOk-weaker}
 use Rattle.sig_base.specs.OptionSteps.{or_else}
 use Rattle.sig_base.specs.declared.memory.OutOfMemory.{OutOfMemory}
 use Rattle.sig_explain_gate.specs.Artifact.{IsGateTree}
-use Rattle.sig_explain_gate.specs.Explained.{IsGateExplanation, unread_tree}
+use Rattle.sig_explain_gate.specs.GateExplanation.{IsGateExplanation, unread_tree}
 use Rattle.sig_explain_log.specs.Request.{request_tree}
 use Rattle.sig_gate_command.proofs.Replies.{its-manifest, long-manifest, no-manifest}
 use Rattle.sig_gate_command.proofs.Requests.{one_manifest}

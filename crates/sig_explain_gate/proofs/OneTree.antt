@@ -2,7 +2,7 @@
 use Rattle.std.proofs.Common.{◌≡◌, ◌∙◌, ℕ, Bool, List, Option, Some, None, Ok, Err, inl, inr, ap, refl, subst, sym}
 use Rattle.std.specs.Prelude.{option_map}
 use Rattle.sig_base.proofs.OptionSteps.{some_is}
-use Rattle.sig_base.proofs.Zipped.{zip_one}
+use Rattle.sig_base.proofs.PairedLists.{zip_one}
 use Rattle.sig_explain_gate.proofs.OneDecision.{ProofsAreRead, one_decision}
 use Rattle.sig_explain_gate.specs.Artifact.{IsArtifactTree, IsBundleTree, IsGateTree, artifact_tree, artifacts_tree}
 use Rattle.sig_explain_gate.specs.Artifact.{inputs_with, trees_list}

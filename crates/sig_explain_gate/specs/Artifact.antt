@@ -2,7 +2,7 @@
 use Rattle.std.specs.Prelude.{◌≡◌, ℕ, Bool, List, [], ◌∷◌, codes, if◌then◌else◌, Some}
 use Rattle.std.specs.List.{AllZip}
 use Rattle.sig_base.specs.ByText.{text_lookup}
-use Rattle.sig_bundle.specs.Written.{list_tree, object_of}
+use Rattle.sig_json.specs.Writing.{list_tree, object_of}
 use Rattle.sig_explain_gate.specs.Bundle.{IsBundleShown}
 use Rattle.sig_explain_gate.specs.declared.artifact.Findings.{Findings}
 use Rattle.sig_explain_verify.specs.Inputs.{Inputs as Explained}

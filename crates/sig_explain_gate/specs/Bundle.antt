@@ -2,7 +2,7 @@
 use Rattle.std.specs.Prelude.{◌≡◌, Some, Ok, Err}
 use Rattle.sig_explain_gate.specs.declared.bundle.Finding.{Finding}
 use Rattle.sig_explain_verify.specs.Inputs.{Inputs as Explained}
-use Rattle.sig_explain_verify.specs.Refused.{IsRefusedTree}
+use Rattle.sig_explain_verify.specs.RefusedTree.{IsRefusedTree}
 use Rattle.sig_explain_verify.specs.Verified.{IsVerifiedTree}
 use Rattle.sig_gate.specs.BundleVerdict.{IsJudged, outside, verdict_of}
 use Rattle.sig_gate.specs.declared.verdict.BundleVerdict.{BundleVerdict}

@@ -1,5 +1,5 @@
 pub mod Artifact
 pub mod Bundle
-pub mod Explained
+pub mod GateExplanation
 pub mod Roots
 pub mod OneTree

@@ -1,6 +1,6 @@
 -- *One tree*: a text has one explanation by `gate`.
 use Rattle.std.specs.Prelude.{◌≡◌, ℕ, List}
-use Rattle.sig_explain_gate.specs.Explained.{IsGateExplanation}
+use Rattle.sig_explain_gate.specs.GateExplanation.{IsGateExplanation}
 use Rattle.sig_json.specs.Data.{Data}
 
 abbrev pub TextsHaveOneTree : Type 0

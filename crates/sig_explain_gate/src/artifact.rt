@@ -12,11 +12,10 @@ ghost use Rattle.sig_manifest.specs.Unknown.{IsNamedIn};
 use crate::bundle::find_under;
 use crate::roots::{ReadRoot, ReadRoots, read_named};
 use sig_base::OutOfMemory;
-use sig_bundle::Object;
 use sig_explain_verify::VerifyInputs;
 use sig_gate::{BundleVerdicts, is_admitted};
 use sig_gate_command::GateRequest;
-use sig_json::Document;
+use sig_json::{Document, Object};
 use sig_manifest::Artifact;
 use sig_policy::RequestPolicy;
 use std::alloc::Global;
@@ -24,7 +23,6 @@ use std::alloc::Global;
 /// What is found of the bundles of an artifact, in order.
 #[derive(Drop)]
 pub(crate) struct Findings {
-    /// The verdicts.
     verdicts: BundleVerdicts,
     /// The list of what is shown of each.
     list: Document,
@@ -49,23 +47,6 @@ pub(crate) fn artifact_document(
     let Findings { verdicts, list } = found;
     drop(verdicts);
     written(alloc, admitted, list, artifact.name.as_str())
-}
-
-/// The object of an artifact.
-fn written(
-    alloc: Global,
-    admitted: bool,
-    bundles: Document,
-    name: &str,
-) -> Result<Document, OutOfMemory>
-    ensures { IfOk result (λ document. document_tree document
-        ≡ artifact_tree admitted (document_tree bundles) name.now) }
-{
-    let word = if admitted { "yes" } else { "no" };
-    let object = Object::new(alloc).with_text(alloc, "admitted", word)?;
-    let object = object.with(alloc, "bundles", bundles)?;
-    let object = object.with_text(alloc, "name", name)?;
-    Ok(object.into_document())
 }
 
 /// What is found of the bundles of an artifact. Its trusted root was read afterwards, if it has one.
@@ -135,4 +116,21 @@ fn find_each(
         list.push(found.document)?;
     }
     Ok(Findings { verdicts, list })
+}
+
+/// The object of an artifact.
+fn written(
+    alloc: Global,
+    admitted: bool,
+    bundles: Document,
+    name: &str,
+) -> Result<Document, OutOfMemory>
+    ensures { IfOk result (λ document. document_tree document
+        ≡ artifact_tree admitted (document_tree bundles) name.now) }
+{
+    let word = if admitted { "yes" } else { "no" };
+    let object = Object::new(alloc).with_text(alloc, "admitted", word)?;
+    let object = object.with(alloc, "bundles", bundles)?;
+    let object = object.with_text(alloc, "name", name)?;
+    Ok(object.into_document())
 }

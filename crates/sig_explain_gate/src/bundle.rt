@@ -17,13 +17,12 @@ use sig_explain_verify::{
 use sig_gate::BundleVerdict;
 use sig_json::Document;
 use sig_request::BriefPolicy;
-use sig_verify::{HeldRoot, Offline, OfflineError};
+use sig_verify::{HeldRoot, LoggedEntry, OfflineError};
 use std::alloc::Global;
 
 /// The verdict on a bundle, and the document that explains it.
 #[derive(Drop)]
 pub(crate) struct Finding {
-    /// The verdict.
     pub(crate) verdict: BundleVerdict,
     /// The object of what was verified, or of the refusal.
     pub(crate) document: Document,
@@ -80,7 +79,7 @@ fn verified(
     alloc: Global,
     shown: &ShownRoot,
     inputs: &VerifyInputs<'_>,
-    entry: Offline,
+    entry: LoggedEntry,
 ) -> Result<Finding, OutOfMemory>
     requires { IsShownRoot inputs.now.trusted_root.now inputs.now.now shown.now }
     ensures verdict { IfOk result (λ found. found.verdict ≡ Verified entry) }

@@ -1,7 +1,7 @@
 //! The explanation of `gate`.
 ghost use Rattle.std.specs.Prelude.{◌≡◌, IfOk};
 ghost use Rattle.sig_explain_gate.specs.Artifact.{IsGateTree, IsListOf, artifacts_tree};
-ghost use Rattle.sig_explain_gate.specs.Explained.{IsGateExplanation, unread_tree};
+ghost use Rattle.sig_explain_gate.specs.GateExplanation.{IsGateExplanation, unread_tree};
 ghost use Rattle.sig_explain_gate.specs.Roots.{AreRead};
 ghost use Rattle.sig_gate_command.specs.Request.{parts_of};
 ghost use Rattle.sig_json.specs.Tree.{document_tree};
@@ -12,10 +12,9 @@ ghost use Rattle.sig_manifest_fault.specs.ManifestFault.{manifest_fault_in};
 use crate::artifact::artifact_document;
 use crate::roots::ReadRoots;
 use sig_base::OutOfMemory;
-use sig_bundle::Object;
 use sig_explain_log::request_explanation;
 use sig_gate_command::GateRequest;
-use sig_json::Document;
+use sig_json::{Document, Object};
 use sig_manifest_fault::manifest_fault;
 use std::alloc::Global;
 
@@ -60,14 +59,6 @@ fn gate_document(alloc: Global, request: &GateRequest) -> Result<Document, OutOf
     under_artifacts(alloc, list?)
 }
 
-/// The object of a list of artifacts.
-fn under_artifacts(alloc: Global, list: Document) -> Result<Document, OutOfMemory>
-    ensures { IfOk result (λ document. document_tree document ≡ artifacts_tree (document_tree list)) }
-{
-    let object = Object::new(alloc).with(alloc, "artifacts", list)?;
-    Ok(object.into_document())
-}
-
 /// What is shown of each artifact, under trusted roots that were read or will be.
 fn artifact_documents(
     alloc: Global,
@@ -86,4 +77,12 @@ fn artifact_documents(
         list.push(document)?;
     }
     Ok(list)
+}
+
+/// The object of a list of artifacts.
+fn under_artifacts(alloc: Global, list: Document) -> Result<Document, OutOfMemory>
+    ensures { IfOk result (λ document. document_tree document ≡ artifacts_tree (document_tree list)) }
+{
+    let object = Object::new(alloc).with(alloc, "artifacts", list)?;
+    Ok(object.into_document())
 }

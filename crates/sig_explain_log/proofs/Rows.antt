@@ -2,8 +2,8 @@
 use Rattle.std.proofs.Common.{◌≡◌, List, [], ◌∷◌, ◌++◌, Result, Ok, Err, refl, sym, ap, ◌∙◌}
 use Rattle.std.specs.Prelude.{IfOk}
 use Rattle.sig_base.specs.declared.memory.OutOfMemory.{OutOfMemory}
-use Rattle.sig_bundle.specs.Written.{TreeMember, members, members_into, put_some}
-use Rattle.sig_bundle.specs.declared.object.Object.{Object}
+use Rattle.sig_json.specs.Writing.{TreeMember, members, members_into, put_some}
+use Rattle.sig_json.specs.declared.object.Object.{Object}
 use Rattle.sig_json.specs.Data.{Members}
 
 pub members_into-append : (ms : Members) (xs ys : List TreeMember)

@@ -1,14 +1,14 @@
 -- What is shown of a request of `consistency`: why its first failing link fails, or what was verified.
 use Rattle.std.specs.Prelude.{List, [], ◌∷◌, ◌++◌, codes, Option, Some, None, Result}
 use Rattle.sig_base.specs.declared.merkle_error.MerkleProofError.{MerkleProofError}
-use Rattle.sig_bundle.specs.Written.{TreeMember, object_of}
+use Rattle.sig_json.specs.Writing.{TreeMember, object_of}
 use Rattle.sig_json.specs.Data.{Data}
 use Rattle.sig_merkle.specs.ConsistencyAnswer.{consistency_answer}
 use Rattle.sig_request.specs.declared.consistency_request.ConsistencyRequest.{ConsistencyRequest}
 use Rattle.sig_verify.specs.Link.{link_name}
 use Rattle.sig_verify.specs.declared.link.Link.{Link}
 use Rattle.sig_verify.specs.declared.link.Link.TheVariants.{Checkpoint, Consistency, NoteKey, NoteMatch}
-use Rattle.sig_shown.specs.Shown.{text_row}
+use Rattle.sig_shown.specs.ShownValues.{text_row}
 use Rattle.sig_explain_log.specs.Head.{head_mismatch_rows, head_note_row, head_unread_rows, head_unsigned_rows}
 use Rattle.sig_explain_log.specs.Refusals.{consistency_rows}
 use Rattle.sig_explain_log.specs.Trees.{head_row}

@@ -1,7 +1,7 @@
 -- What is shown of the tree head of a request: its checkpoint has to vouch for the size and the root of a tree.
 use Rattle.std.specs.Prelude.{ℕ, List}
 use Rattle.sig_base.specs.Scheme.{scheme_of}
-use Rattle.sig_bundle.specs.Written.{TreeMember}
+use Rattle.sig_json.specs.Writing.{TreeMember}
 use Rattle.sig_rekor.specs.CheckpointText.{checkpoint_of}
 use Rattle.sig_request.specs.declared.head_members.ClaimedHead.{ClaimedHead}
 use Rattle.sig_explain_log.specs.Refusals.{mismatch_rows, unread_rows, unsigned_rows}

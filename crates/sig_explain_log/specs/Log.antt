@@ -2,7 +2,7 @@
 use Rattle.std.specs.Prelude.{ℤ, pos, negsuc, List, [], ◌∷◌, ◌++◌, codes, Option, Some, None, Result, Err}
 use Rattle.sig_base.specs.declared.merkle_error.MerkleProofError.{MerkleProofError}
 use Rattle.sig_base.specs.declared.merkle_error.MerkleProofError.TheVariants.{IndexGtTreeSize}
-use Rattle.sig_bundle.specs.Written.{TreeMember, object_of}
+use Rattle.sig_json.specs.Writing.{TreeMember, object_of}
 use Rattle.sig_evidence.specs.Trees.{proof_tree}
 use Rattle.sig_json.specs.Data.{Data}
 use Rattle.sig_merkle.specs.Inclusion.{inclusion_answer}
@@ -12,7 +12,7 @@ use Rattle.sig_rekor.specs.declared.inclusion_proof.InclusionProof.{InclusionPro
 use Rattle.sig_verify.specs.Link.{link_name}
 use Rattle.sig_verify.specs.declared.link.Link.{Link}
 use Rattle.sig_verify.specs.declared.link.Link.TheVariants.{Checkpoint, Inclusion, NoteKey, NoteMatch}
-use Rattle.sig_shown.specs.Shown.{text_row}
+use Rattle.sig_shown.specs.ShownValues.{text_row}
 use Rattle.sig_explain_log.specs.Head.{head_mismatch_rows, head_note_row, head_unread_rows, head_unsigned_rows}
 use Rattle.sig_explain_log.specs.Refusals.{inclusion_rows}
 use Rattle.sig_explain_log.specs.Trees.{entry_row}

@@ -7,16 +7,16 @@ use Rattle.sig_base.specs.declared.error.SigstoreError.TheVariants.{ConsistencyP
 use Rattle.sig_base.specs.declared.fault.CheckpointFault.{CheckpointFault}
 use Rattle.sig_base.specs.declared.merkle_error.MerkleProofError.{MerkleProofError}
 use Rattle.sig_base.specs.declared.scheme.VerifyScheme.{VerifyScheme}
-use Rattle.sig_bundle.specs.Written.{TreeMember}
+use Rattle.sig_json.specs.Writing.{TreeMember}
 use Rattle.sig_evidence.specs.Accepted.{asked_note_rows}
-use Rattle.sig_explanation.specs.Kept.{merkle_rows}
+use Rattle.sig_explanation.specs.KeptRows.{merkle_rows}
 use Rattle.sig_explanation.specs.Names.{checkpoint_name, merkle_name}
 use Rattle.sig_rekor.specs.NoteText.{note_text}
 use Rattle.sig_rekor.specs.Verify.{tree_answer}
 use Rattle.sig_rekor.specs.declared.checkpoint.SignedCheckpoint.{SignedCheckpoint}
-use Rattle.sig_shown.specs.Shown.{texts_row}
+use Rattle.sig_shown.specs.ShownValues.{texts_row}
 
--- ---- a text that is no checkpoint
+-- ---- a text that is not a checkpoint
 
 abbrev pub checkpoint_fault_rows : CheckpointFault → List TreeMember
 checkpoint_fault_rows fault =
@@ -35,7 +35,7 @@ note_key_rows scheme key rows checkpoint =
     texts_row (codes "cause") (codes "CheckpointSignatureVerificationError" ∷ [])
     ∷ asked_note_rows rows scheme key (note_text checkpoint.note) checkpoint.signatures
 
--- of what a text was read as; nothing of one that is no checkpoint
+-- of what a text was read as; nothing of one that is not a checkpoint
 abbrev pub unsigned_rows : VerifyScheme → List ℕ → List AcceptedRow → Result SignedCheckpoint CheckpointFault
     → List TreeMember
 unsigned_rows scheme key rows (Ok checkpoint) = note_key_rows scheme key rows checkpoint
@@ -67,7 +67,7 @@ abbrev pub tree_rows : Result (Unit {0}) SigstoreError → List TreeMember
 tree_rows (Err (ConsistencyProofError error)) = consistency_error_rows error
 tree_rows other = []
 
--- of what a text was read as, and the size and the root of the tree; nothing of a text that is no checkpoint
+-- of what a text was read as, and the size and the root of the tree; nothing of a text that is not a checkpoint
 abbrev pub mismatch_rows : ℕ → List ℕ → Result SignedCheckpoint CheckpointFault → List TreeMember
 mismatch_rows size root (Ok checkpoint) = tree_rows (tree_answer checkpoint root size)
 mismatch_rows size root (Err _) = []

@@ -1,6 +1,6 @@
 -- What is shown of a text that has to be a request and is none.
 use Rattle.std.specs.Prelude.{ℕ, List, [], ◌∷◌, codes}
-use Rattle.sig_bundle.specs.Written.{TreeMember, object_of}
+use Rattle.sig_json.specs.Writing.{TreeMember, object_of}
 use Rattle.sig_json.specs.Data.{Data}
 use Rattle.sig_request_fault.specs.declared.fault.RequestFault.{RequestFault}
 use Rattle.sig_request_fault.specs.declared.fault.RequestFault.TheVariants.{TooLong, Document}
@@ -9,7 +9,7 @@ use Rattle.sig_table.specs.declared.fault.DocumentFault.TheVariants.{Float, Memb
 use Rattle.sig_verify.specs.Link.{link_name}
 use Rattle.sig_verify.specs.declared.link.Link.TheVariants as link
 use Rattle.sig_evidence.specs.Fault.{fault_rows}
-use Rattle.sig_shown.specs.Shown.{text_row, texts_row}
+use Rattle.sig_shown.specs.ShownValues.{text_row, texts_row}
 
 abbrev pub document_fault_name : DocumentFault → List ℕ
 document_fault_name NotJson = codes "NotJson"

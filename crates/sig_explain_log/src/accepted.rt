@@ -5,19 +5,41 @@
 //!  "scheme":"ED25519",..}
 //! ```
 ghost use Rattle.std.specs.Prelude.{◌≡◌, IfOk};
-ghost use Rattle.sig_bundle.specs.Written.{members, members_into};
+ghost use Rattle.sig_json.specs.Writing.{members, members_into};
 ghost use Rattle.sig_explain_log.specs.Head.{head_unsigned_rows};
 ghost use Rattle.sig_explain_log.specs.Refusals.{note_key_rows, unsigned_rows};
 ghost use Rattle.sig_rekor.specs.CheckpointText.{checkpoint_of};
 
 use crate::reading::read_note;
 use sig_base::{AcceptedRow, OutOfMemory, TableChecker, VerifyScheme};
-use sig_bundle::Object;
 use sig_evidence::with_accepted_note;
 use sig_explanation::with_cause;
+use sig_json::Object;
 use sig_rekor::SignedNote;
 use sig_request::ClaimedHead;
 use std::alloc::Global;
+
+/// The object with what a note lacks that the log did not sign: `cause`, a list of
+/// `CheckpointSignatureVerificationError`; and `scheme`, `keySha256`, `messageSha256` and `accepted` as by
+/// [`with_accepted_note`]. Of a text that is not a checkpoint the object stays as it is. Fails only if out of memory.
+pub fn with_unsigned(
+    object: Object,
+    alloc: Global,
+    scheme: VerifyScheme,
+    key: &[u8],
+    accepted: &TableChecker,
+    text: &str,
+) -> Result<Object, OutOfMemory>
+    ensures { IfOk result (λ made. members made
+        ≡ members_into (members object) (unsigned_rows scheme key.now accepted.now (checkpoint_of text.now))) }
+{
+    match read_note(alloc, text)? {
+        Ok(checkpoint) => {
+            with_note_key(object, alloc, scheme, key, accepted.rows(), &checkpoint)
+        }
+        Err(_) => Ok(object),
+    }
+}
 
 /// The object with what the accepted signatures have of a checkpoint that is read.
 fn with_note_key(
@@ -42,28 +64,6 @@ fn with_note_key(
         note.as_str().as_bytes(),
         checkpoint.signatures(),
     )
-}
-
-/// The object with what a note lacks that the log did not sign: `cause`, a list of
-/// `CheckpointSignatureVerificationError`; and `scheme`, `keySha256`, `messageSha256` and `accepted` as by
-/// [`with_accepted_note`]. Of a text that is no checkpoint the object stays as it is. Fails only if out of memory.
-pub fn with_unsigned(
-    object: Object,
-    alloc: Global,
-    scheme: VerifyScheme,
-    key: &[u8],
-    accepted: &TableChecker,
-    text: &str,
-) -> Result<Object, OutOfMemory>
-    ensures { IfOk result (λ made. members made
-        ≡ members_into (members object) (unsigned_rows scheme key.now accepted.now (checkpoint_of text.now))) }
-{
-    match read_note(alloc, text)? {
-        Ok(checkpoint) => {
-            with_note_key(object, alloc, scheme, key, accepted.rows(), &checkpoint)
-        }
-        Err(_) => Ok(object),
-    }
 }
 
 /// The same of a request's tree head.

@@ -13,7 +13,7 @@
 //! - [`log_explanation`] and [`consistency_explanation`] make the document of a request and of the link that fails, or of
 //!   none: its tree is a total function of both, `log_tree` or `consistency_tree`. That this link is the first that fails
 //!   is the caller's word; of a link that holds no cause is shown.
-//! - [`request_explanation`] makes that of a text that is no request: `request_tree` of what is wrong with it.
+//! - [`request_explanation`] makes that of a text that is not a request: `request_tree` of what is wrong with it.
 //! - Each other call returns the object with members that a definition gives of what it is handed.
 #![tactic(auto)]
 

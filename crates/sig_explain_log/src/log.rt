@@ -5,7 +5,7 @@
 //! {"entrySha256":"..","note":{..},"proof":{..}}
 //! ```
 ghost use Rattle.std.specs.Prelude.{◌≡◌, IfOk};
-ghost use Rattle.sig_bundle.specs.Written.{members, members_into};
+ghost use Rattle.sig_json.specs.Writing.{members, members_into};
 ghost use Rattle.sig_explain_log.specs.Head.{head_mismatch_rows};
 ghost use Rattle.sig_explain_log.specs.Log.{log_inclusion_rows, log_link_rows, log_match_rows, log_rows, log_tree};
 ghost use Rattle.sig_explain_log.specs.Log.{log_trees_rows, logged_rows, path_answer};
@@ -18,122 +18,13 @@ use crate::proof::{with_inclusion, with_mismatch};
 use crate::tree::{with_entry, with_note};
 use crate::unread::with_unread;
 use sig_base::{MerkleProofError, OutOfMemory};
-use sig_bundle::Object;
 use sig_evidence::with_proof;
-use sig_json::Document;
+use sig_json::{Document, Object};
 use sig_merkle::hash_leaf;
 use sig_merkle::uncounted::verify_inclusion;
 use sig_request::LogRequest;
 use sig_verify::Link;
 use std::alloc::Global;
-
-/// The check of the path from the entry's leaf to the root.
-fn path_answer(request: &LogRequest) -> Result<(), MerkleProofError>
-    ensures { result ≡ path_answer request.now.proof.log_index request.now }
-{
-    let proof = &request.proof;
-    let Ok(index) = u64::try_from(proof.log_index) else {
-        return Err(MerkleProofError::IndexGtTreeSize);
-    };
-    verify_inclusion(
-        index,
-        &hash_leaf(request.entry.as_slice()),
-        proof.tree_size,
-        proof.hashes.as_slice(),
-        &proof.root_hash,
-    )
-}
-
-/// The object with the proof and the note.
-fn with_trees(object: Object, alloc: Global, request: &LogRequest) -> Result<Object, OutOfMemory>
-    ensures { IfOk result (λ made. members made ≡ members_into (members object) (log_trees_rows request.now)) }
-{
-    let object = with_proof(object, alloc, "proof", &request.proof)?;
-    with_note(object, alloc, request.head.checkpoint.as_str())
-}
-
-/// The object with what is wrong with the note.
-fn with_note_mismatch(
-    object: Object,
-    alloc: Global,
-    request: &LogRequest,
-) -> Result<Object, OutOfMemory>
-    ensures { IfOk result (λ made. members made ≡ members_into (members object)
-        (head_mismatch_rows request.now.head request.now.proof.tree_size request.now.proof.root_hash)) }
-{
-    let proof = &request.proof;
-    let text = request.head.checkpoint.as_str();
-    with_mismatch(object, alloc, text, proof.tree_size, &proof.root_hash)
-}
-
-/// The object with what is wrong with the note, and with both.
-fn with_match(object: Object, alloc: Global, request: &LogRequest) -> Result<Object, OutOfMemory>
-    ensures { IfOk result (λ made. members made ≡ members_into (members object) (log_match_rows request.now)) }
-{
-    let object = with_note_mismatch(object, alloc, request)?;
-    with_trees(object, alloc, request)
-}
-
-/// The object with what is wrong with the path.
-fn with_path_error(
-    object: Object,
-    alloc: Global,
-    request: &LogRequest,
-) -> Result<Object, OutOfMemory>
-    ensures { IfOk result (λ made. members made ≡ members_into (members object)
-        (inclusion_rows (path_answer request.now.proof.log_index request.now))) }
-{
-    with_inclusion(object, alloc, &path_answer(request))
-}
-
-/// The object with what is wrong with the path, and with the proof and the note.
-fn with_path(object: Object, alloc: Global, request: &LogRequest) -> Result<Object, OutOfMemory>
-    ensures { IfOk result (λ made. members made ≡ members_into (members object) (log_inclusion_rows request.now)) }
-{
-    let object = with_path_error(object, alloc, request)?;
-    with_trees(object, alloc, request)
-}
-
-/// The object with why a link fails.
-fn with_link(
-    object: Object,
-    alloc: Global,
-    request: &LogRequest,
-    link: Link,
-) -> Result<Object, OutOfMemory>
-    ensures { IfOk result (λ made. members made ≡ members_into (members object) (log_link_rows request.now link)) }
-{
-    match link {
-        Link::Checkpoint => with_unread(object, alloc, request.head.checkpoint.as_str()),
-        Link::NoteKey => with_unsigned_head(object, alloc, &request.head),
-        Link::NoteMatch => with_match(object, alloc, request),
-        Link::Inclusion => with_path(object, alloc, request),
-        _ => Ok(object),
-    }
-}
-
-/// The object of what was verified.
-fn logged(alloc: Global, request: &LogRequest) -> Result<Object, OutOfMemory>
-    ensures { IfOk result (λ made. members made ≡ members_into no_members (logged_rows request.now)) }
-{
-    let object = with_entry(Object::new(alloc), alloc, request.entry.as_slice())?;
-    with_trees(object, alloc, request)
-}
-
-/// The object of a request.
-fn log_object(
-    alloc: Global,
-    request: &LogRequest,
-    failing: Option<Link>,
-) -> Result<Object, OutOfMemory>
-    ensures { IfOk result (λ made. members made ≡ members_into no_members (log_rows request.now failing)) }
-{
-    let Some(link) = failing else {
-        return logged(alloc, request);
-    };
-    let object = Object::new(alloc).with_text(alloc, "link", link.name())?;
-    with_link(object, alloc, request, link)
-}
 
 /// The explanation of a request of `log`, whose first failing link is this one: `link`, its name, and
 ///
@@ -154,4 +45,112 @@ pub fn log_explanation(
 {
     let object = log_object(alloc, request, failing)?;
     Ok(object.into_document())
+}
+
+/// The object of a request.
+fn log_object(
+    alloc: Global,
+    request: &LogRequest,
+    failing: Option<Link>,
+) -> Result<Object, OutOfMemory>
+    ensures { IfOk result (λ made. members made ≡ members_into no_members (log_rows request.now failing)) }
+{
+    let Some(link) = failing else {
+        return logged(alloc, request);
+    };
+    let object = Object::new(alloc).with_text(alloc, "link", link.name())?;
+    with_link(object, alloc, request, link)
+}
+
+/// The object of what was verified.
+fn logged(alloc: Global, request: &LogRequest) -> Result<Object, OutOfMemory>
+    ensures { IfOk result (λ made. members made ≡ members_into no_members (logged_rows request.now)) }
+{
+    let object = with_entry(Object::new(alloc), alloc, request.entry.as_slice())?;
+    with_trees(object, alloc, request)
+}
+
+/// The object with the proof and the note.
+fn with_trees(object: Object, alloc: Global, request: &LogRequest) -> Result<Object, OutOfMemory>
+    ensures { IfOk result (λ made. members made ≡ members_into (members object) (log_trees_rows request.now)) }
+{
+    let object = with_proof(object, alloc, "proof", &request.proof)?;
+    with_note(object, alloc, request.head.checkpoint.as_str())
+}
+
+/// The object with why a link fails.
+fn with_link(
+    object: Object,
+    alloc: Global,
+    request: &LogRequest,
+    link: Link,
+) -> Result<Object, OutOfMemory>
+    ensures { IfOk result (λ made. members made ≡ members_into (members object) (log_link_rows request.now link)) }
+{
+    match link {
+        Link::Checkpoint => with_unread(object, alloc, request.head.checkpoint.as_str()),
+        Link::NoteKey => with_unsigned_head(object, alloc, &request.head),
+        Link::NoteMatch => with_match(object, alloc, request),
+        Link::Inclusion => with_path(object, alloc, request),
+        _ => Ok(object),
+    }
+}
+
+/// The object with what is wrong with the note, and with both.
+fn with_match(object: Object, alloc: Global, request: &LogRequest) -> Result<Object, OutOfMemory>
+    ensures { IfOk result (λ made. members made ≡ members_into (members object) (log_match_rows request.now)) }
+{
+    let object = with_note_mismatch(object, alloc, request)?;
+    with_trees(object, alloc, request)
+}
+
+/// The object with what is wrong with the note.
+fn with_note_mismatch(
+    object: Object,
+    alloc: Global,
+    request: &LogRequest,
+) -> Result<Object, OutOfMemory>
+    ensures { IfOk result (λ made. members made ≡ members_into (members object)
+        (head_mismatch_rows request.now.head request.now.proof.tree_size request.now.proof.root_hash)) }
+{
+    let proof = &request.proof;
+    let text = request.head.checkpoint.as_str();
+    with_mismatch(object, alloc, text, proof.tree_size, &proof.root_hash)
+}
+
+/// The object with what is wrong with the path, and with the proof and the note.
+fn with_path(object: Object, alloc: Global, request: &LogRequest) -> Result<Object, OutOfMemory>
+    ensures { IfOk result (λ made. members made ≡ members_into (members object) (log_inclusion_rows request.now)) }
+{
+    let object = with_path_error(object, alloc, request)?;
+    with_trees(object, alloc, request)
+}
+
+/// The object with what is wrong with the path.
+fn with_path_error(
+    object: Object,
+    alloc: Global,
+    request: &LogRequest,
+) -> Result<Object, OutOfMemory>
+    ensures { IfOk result (λ made. members made ≡ members_into (members object)
+        (inclusion_rows (path_answer request.now.proof.log_index request.now))) }
+{
+    with_inclusion(object, alloc, &path_answer(request))
+}
+
+/// The check of the path from the entry's leaf to the root.
+fn path_answer(request: &LogRequest) -> Result<(), MerkleProofError>
+    ensures { result ≡ path_answer request.now.proof.log_index request.now }
+{
+    let proof = &request.proof;
+    let Ok(index) = u64::try_from(proof.log_index) else {
+        return Err(MerkleProofError::IndexGtTreeSize);
+    };
+    verify_inclusion(
+        index,
+        &hash_leaf(request.entry.as_slice()),
+        proof.tree_size,
+        proof.hashes.as_slice(),
+        &proof.root_hash,
+    )
 }

@@ -4,15 +4,15 @@
 //! {"cause":["InclusionProofError","WrongProofSize"],"got":"3","want":"2",..}
 //! ```
 ghost use Rattle.std.specs.Prelude.{◌≡◌, IfOk};
-ghost use Rattle.sig_bundle.specs.Written.{members, members_into};
+ghost use Rattle.sig_json.specs.Writing.{members, members_into};
 ghost use Rattle.sig_explain_log.specs.Refusals.{consistency_error_rows, consistency_rows, inclusion_error_rows};
 ghost use Rattle.sig_explain_log.specs.Refusals.{inclusion_rows, mismatch_rows};
 ghost use Rattle.sig_rekor.specs.CheckpointText.{checkpoint_of};
 
 use crate::reading::read_note;
 use sig_base::{MerkleProofError, OutOfMemory, SigstoreError};
-use sig_bundle::Object;
 use sig_explanation::{merkle_name, with_inner_cause, with_merkle};
+use sig_json::Object;
 use std::alloc::Global;
 
 /// The object with why a tree has not the older one as its first leaves: `cause`, a list of `ConsistencyProofError` and
@@ -74,7 +74,7 @@ pub fn with_inclusion(
 }
 
 /// The object with why the note of a text is not one of the tree of this size and root. Of a note of this tree, and of a
-/// text that is no checkpoint, the object stays as it is.
+/// text that is not a checkpoint, the object stays as it is.
 pub(crate) fn with_mismatch(
     object: Object,
     alloc: Global,

@@ -5,20 +5,18 @@
 //!  "note":{"origin":"log.example","rootHash":"..","treeSize":"5"},..}
 //! ```
 ghost use Rattle.std.specs.Prelude.{◌≡◌, IfOk, codes};
-ghost use Rattle.sig_bundle.specs.Written.{members, put_some};
-ghost use Rattle.sig_evidence.specs.Trees.{note_tree};
+ghost use Rattle.sig_json.specs.Writing.{members, put_some};
 ghost use Rattle.sig_explain_log.specs.Trees.{head_tree, note_in};
 ghost use Rattle.sig_json.specs.Data.{put};
 ghost use Rattle.sig_json.specs.Tree.{document_tree};
 ghost use Rattle.sig_rekor.specs.CheckpointText.{checkpoint_of};
-ghost use Rattle.sig_shown.specs.Shown.{sha256_tree};
+ghost use Rattle.sig_shown.specs.ShownValues.{sha256_tree};
 
 use crate::reading::read_checkpoint;
 use sig_base::OutOfMemory;
-use sig_bundle::Object;
-use sig_json::Document;
-use sig_rekor::Checkpoint;
-use sig_shown::{with_count, with_sha256, with_shown};
+use sig_evidence::note_document;
+use sig_json::{Document, Object};
+use sig_shown::{with_count, with_sha256};
 use std::alloc::Global;
 
 /// A tree: `treeSize`, how many leaves it has, and `rootHash`, its root in hexadecimal. Fails only if out of memory.
@@ -45,20 +43,8 @@ pub fn with_head(
     object.with(alloc, name, value)
 }
 
-/// What a note says of its tree.
-#[tactic(auto, unfolding(sig_evidence::specs::Trees::note_tree))]
-fn note_document(alloc: Global, note: &Checkpoint) -> Result<Document, OutOfMemory>
-    ensures { IfOk result (λ document. document_tree document ≡ note_tree note.now) }
-{
-    let origin = note.origin.as_str();
-    let object = with_shown(Object::new(alloc), alloc, "origin", "originLength", origin)?;
-    let object = with_count(object, alloc, "treeSize", note.size)?;
-    let object = object.with_hex(alloc, "rootHash", &note.hash)?;
-    Ok(object.into_document())
-}
-
 /// The object with `note`, what the note of a text says of its tree: its `origin`, the `treeSize` and the `rootHash`. Of a
-/// text that is no checkpoint the object stays as it is. Fails only if out of memory.
+/// text that is not a checkpoint the object stays as it is. Fails only if out of memory.
 pub fn with_note(object: Object, alloc: Global, text: &str) -> Result<Object, OutOfMemory>
     ensures { IfOk result (λ made. members made
         ≡ put_some (codes "note") (note_in (checkpoint_of text.now)) (members object)) }

@@ -1,21 +1,21 @@
-//! A text that is no checkpoint.
+//! A text that is not a checkpoint.
 //!
 //! ```text
 //! {"cause":["ParseCheckpointError","NoteFormat"],..}
 //! ```
 ghost use Rattle.std.specs.Prelude.{◌≡◌, IfOk};
-ghost use Rattle.sig_bundle.specs.Written.{members, members_into};
+ghost use Rattle.sig_json.specs.Writing.{members, members_into};
 ghost use Rattle.sig_explain_log.specs.Refusals.{checkpoint_fault_rows, unread_rows};
 ghost use Rattle.sig_rekor.specs.CheckpointText.{checkpoint_of};
 
 use crate::reading::read_note;
 use sig_base::{CheckpointFault, OutOfMemory};
-use sig_bundle::Object;
 use sig_explanation::{checkpoint_name, with_inner_cause};
+use sig_json::Object;
 use std::alloc::Global;
 
-/// The object with why a text is no checkpoint: `cause`, a list of `ParseCheckpointError` and the rule that the text
-/// breaks first. Fails only if out of memory.
+/// The object with why a text is not a checkpoint: `cause`, a list of `ParseCheckpointError` and the rule that the
+/// text breaks first. Fails only if out of memory.
 pub fn with_checkpoint_fault(
     object: Object,
     alloc: Global,

@@ -7,9 +7,9 @@ use Rattle.sig_base.specs.declared.checker.AcceptedRow.{AcceptedRow}
 use Rattle.sig_base.specs.declared.fault.PoolError.{PoolError}
 use Rattle.sig_base.specs.declared.fault.PoolError.TheVariants as pool
 use Rattle.sig_base.specs.declared.memory.OutOfMemory.{OutOfMemory}
-use Rattle.sig_bundle.specs.Written.{members, members_into}
+use Rattle.sig_json.specs.Writing.{members, members_into}
 use Rattle.sig_bundle.specs.declared.bundle.Bundle.{Bundle}
-use Rattle.sig_bundle.specs.declared.object.Object.{Object}
+use Rattle.sig_json.specs.declared.object.Object.{Object}
 use Rattle.sig_certificate.specs.Certificate.{Cert}
 use Rattle.sig_checked_bundle.specs.Checked.{Checked}
 use Rattle.sig_explain_verify.specs.Inputs.{Inputs}

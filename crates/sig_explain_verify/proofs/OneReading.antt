@@ -4,7 +4,7 @@ use Rattle.std.proofs.Common.{Result, refl, sym, ap, subst, ◌∙◌}
 use Rattle.std.specs.List.{AllZip}
 use Rattle.std.specs.Prelude.{nat_lt, slice_get}
 use Rattle.std.specs.Result.{result_ok}
-use Rattle.sig_base.proofs.Zipped.{zip_one}
+use Rattle.sig_base.proofs.PairedLists.{zip_one}
 use Rattle.sig_base.specs.ResultSteps.{◌>>=◌}
 use Rattle.sig_bundle.specs.declared.bundle.Bundle.{Bundle}
 use Rattle.sig_bundle.specs.declared.material.VerificationMaterial.{VerificationMaterial}

@@ -4,7 +4,7 @@ use Rattle.std.proofs.Common.{◌≤◌, ap, arith, inr, refl, subst, sym, ◌�
 use Rattle.std.proofs.Math.Path.{fun_ext}
 use Rattle.sig_base.proofs.OptionSteps.{some_is}
 use Rattle.sig_base.proofs.ResultSteps.{err_is, ok_is}
-use Rattle.sig_base.proofs.Zipped.{zip_one}
+use Rattle.sig_base.proofs.PairedLists.{zip_one}
 use Rattle.sig_base.specs.ResultSteps.{◌>>=◌}
 use Rattle.sig_base.specs.declared.error.SigstoreError.{SigstoreError}
 use Rattle.sig_base.specs.declared.error.SigstoreError.TheVariants as sigstore

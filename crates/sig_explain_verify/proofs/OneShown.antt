@@ -3,7 +3,7 @@ use Rattle.std.proofs.Common.{◌≡◌, ℕ, List, ◌++◌, Option, Some, refl
 use Rattle.std.specs.Result.{result_ok}
 use Rattle.sig_base.specs.OptionSteps.{◌>>=◌}
 use Rattle.sig_bundle.specs.BundleRecord.{bundle_in}
-use Rattle.sig_bundle.specs.Written.{TreeMember, object_of}
+use Rattle.sig_json.specs.Writing.{TreeMember, object_of}
 use Rattle.sig_bundle.specs.declared.bundle.Bundle.{Bundle}
 use Rattle.sig_certificate.specs.Certificate.{Cert, IsCertificate}
 use Rattle.sig_checked_bundle.proofs.Certificates.{OneCertificate}
@@ -12,7 +12,7 @@ use Rattle.sig_explain_verify.proofs.OneReading.{one_authorities, one_checked}
 use Rattle.sig_explain_verify.specs.Evidence.{IsEvidence, IsOfChecked, checked_rows, if_there}
 use Rattle.sig_explain_verify.specs.Inputs.{Inputs}
 use Rattle.sig_explain_verify.specs.Parts.{root_in}
-use Rattle.sig_explain_verify.specs.Refused.{IsRefusedTree, policy_refusal_rows, told_rows}
+use Rattle.sig_explain_verify.specs.RefusedTree.{IsRefusedTree, policy_refusal_rows, told_rows}
 use Rattle.sig_explain_verify.specs.Verified.{IsRunOf, IsShownOf, IsVerifiedTree, issuer_among}
 use Rattle.sig_json.specs.Data.{Data}
 use Rattle.sig_policy.specs.declared.failure.PolicyError.{PolicyError}

@@ -2,11 +2,11 @@
 use Rattle.std.proofs.Common.{◌≡◌, List, [], ◌∷◌, ◌++◌, Result, Ok, Err, refl, sym, ap, subst, ◌∙◌}
 use Rattle.std.specs.Prelude.{IfOk, Option}
 use Rattle.sig_base.specs.declared.memory.OutOfMemory.{OutOfMemory}
-use Rattle.sig_bundle.specs.Written.{TreeMember, members, members_into, put_some}
-use Rattle.sig_bundle.specs.declared.object.Object.{Object}
+use Rattle.sig_json.specs.Writing.{TreeMember, members, members_into, put_some}
+use Rattle.sig_json.specs.declared.object.Object.{Object}
 use Rattle.sig_explain_verify.specs.Evidence.{IsEvidence}
 use Rattle.sig_explain_verify.specs.Inputs.{Inputs}
-use Rattle.sig_explain_verify.specs.Refused.{IsRefusedTree, Shows, told_rows}
+use Rattle.sig_explain_verify.specs.RefusedTree.{IsRefusedTree, Shows, told_rows}
 use Rattle.sig_json.specs.Data.{Members, no_members, object}
 use Rattle.sig_verify.specs.OfflineErrors.{link_of}
 use Rattle.sig_verify.specs.declared.link.Link.{Link}

@@ -6,16 +6,16 @@ use Rattle.std.specs.Result.{result_ok}
 use Rattle.sig_base.specs.OptionSteps.{◌>>=◌}
 use Rattle.sig_base.specs.declared.memory.OutOfMemory.{OutOfMemory}
 use Rattle.sig_bundle.specs.BundleRecord.{bundle_in}
-use Rattle.sig_bundle.specs.Written.{members, members_into}
+use Rattle.sig_json.specs.Writing.{members, members_into}
 use Rattle.sig_bundle.specs.declared.bundle.Bundle.{Bundle}
-use Rattle.sig_bundle.specs.declared.object.Object.{Object}
+use Rattle.sig_json.specs.declared.object.Object.{Object}
 use Rattle.sig_certificate.specs.Certificate.{Cert, IsCertificate}
 use Rattle.sig_checked_bundle.specs.Checked.{Checked}
 use Rattle.sig_explain_verify.proofs.Rows.{shows}
 use Rattle.sig_explain_verify.specs.Evidence.{IsOfChecked, checked_rows, if_there}
 use Rattle.sig_explain_verify.specs.Inputs.{Inputs}
 use Rattle.sig_explain_verify.specs.Parts.{AreAuthorities, AreReadAll, IsCheckedIn, IsReadOne, root_in}
-use Rattle.sig_explain_verify.specs.Refused.{Shows}
+use Rattle.sig_explain_verify.specs.RefusedTree.{Shows}
 use Rattle.sig_explain_verify.specs.ShownRoot.{IsPoolOf, IsShownRoot, IsTrustIn, anchors_in, authorities_in}
 use Rattle.sig_explain_verify.specs.Verified.{IsShownUnder, IsVerifiedTree}
 use Rattle.sig_explain_verify.specs.declared.root.ShownRoot.{ShownRoot}
@@ -62,7 +62,7 @@ pub anchors_shown : (text : List ℕ) (now : ℤ) (shown : ShownRoot) → IsShow
 unfolding certificates_of anchors_of
 anchors_shown text now shown is = (trusted (root_in text) now shown.trust is.trust).1
 
--- some bytes are no certificate
+-- some bytes are not a certificate
 pub not_read : (ders items : List (List ℕ)) (index : ℕ) (x u : List ℕ) (found : Option Cert) → items ≡ ders
     → index < length items → u ≡ get_or items index u → x ≡ u → IsReadOne x found → found ≡ None
     → AreReadAll IsCertificate ders None

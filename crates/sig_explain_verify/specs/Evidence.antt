@@ -3,7 +3,7 @@
 use Rattle.std.specs.Prelude.{◌≡◌, ℕ, ℤ, List, [], ◌∷◌, ◌++◌, codes, Option, Some, None}
 use Rattle.sig_base.specs.OptionSteps.{◌>>=◌}
 use Rattle.sig_base.specs.declared.scheme.VerifyScheme.{VerifyScheme}
-use Rattle.sig_bundle.specs.Written.{TreeMember}
+use Rattle.sig_json.specs.Writing.{TreeMember}
 use Rattle.sig_bundle.specs.declared.material.TransparencyLogEntry.{TransparencyLogEntry}
 use Rattle.sig_certificate.specs.Certificate.{Cert, IsCertificate}
 use Rattle.sig_checked_bundle.specs.Checked.{Checked}
@@ -14,7 +14,7 @@ use Rattle.sig_dsse.specs.declared.artifact_digest.ArtifactDigest.{ArtifactDiges
 use Rattle.sig_dsse.specs.declared.artifact_digest.ArtifactDigest.TheVariants.{Sha256, Sha512}
 use Rattle.sig_rekor.specs.NoteText.{note_text}
 use Rattle.sig_root.specs.declared.record.TrustedRoot.{TrustedRoot}
-use Rattle.sig_shown.specs.Shown.{time_row}
+use Rattle.sig_shown.specs.ShownValues.{time_row}
 use Rattle.sig_table.specs.DocumentFault.{fault_in}
 use Rattle.sig_timestamp.specs.Timestamps.{sct_of}
 use Rattle.sig_verify.specs.declared.link.Link.{Link}

@@ -2,6 +2,6 @@ pub mod Inputs
 pub mod Parts
 pub mod ShownRoot
 pub mod Evidence
-pub mod Refused
+pub mod RefusedTree
 pub mod Verified
 pub mod OneTree

@@ -1,7 +1,7 @@
 -- *One tree*: whatever result of offline verification of the same inputs is shown, it is shown as one tree.
 use Rattle.std.specs.Prelude.{◌≡◌, Some, Ok, Err}
 use Rattle.sig_explain_verify.specs.Inputs.{Inputs}
-use Rattle.sig_explain_verify.specs.Refused.{IsRefusedTree}
+use Rattle.sig_explain_verify.specs.RefusedTree.{IsRefusedTree}
 use Rattle.sig_explain_verify.specs.Verified.{IsVerifiedTree}
 use Rattle.sig_json.specs.Data.{Data}
 use Rattle.sig_verify.specs.OfflineErrors.{link_of}

@@ -13,7 +13,7 @@ use Rattle.sig_explain_verify.specs.Parts.{AreReadAll, root_in}
 use Rattle.sig_explain_verify.specs.declared.root.ShownRoot.{ShownRoot}
 use Rattle.sig_explain_verify.specs.declared.trust.TrustParts.{TrustParts}
 
--- which member is wrong, of a text that is no trusted root
+-- which member is wrong, of a text that is not a trusted root
 abbrev pub if_unread : Option TrustedRoot → Option DocumentFault → Option DocumentFault
 if_unread None fault = fault
 if_unread (Some root) fault = None

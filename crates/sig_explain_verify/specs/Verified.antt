@@ -8,7 +8,7 @@ use Rattle.sig_base.specs.OptionSteps.{◌>>=◌}
 use Rattle.sig_base.specs.declared.checker.AcceptedRow.{AcceptedRow}
 use Rattle.sig_base.specs.declared.checker.Operation.TheVariants.{Certificate}
 use Rattle.sig_bundle.specs.BundleRecord.{bundle_in}
-use Rattle.sig_bundle.specs.Written.{object_of}
+use Rattle.sig_json.specs.Writing.{object_of}
 use Rattle.sig_bundle.specs.declared.bundle.Bundle.{Bundle}
 use Rattle.sig_certificate.specs.Certificate.{Cert}
 use Rattle.sig_checked_bundle.specs.Checked.{Checked}

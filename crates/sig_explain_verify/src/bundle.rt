@@ -12,7 +12,22 @@ use sig_json::JsonError;
 use sig_rekor::InclusionProof;
 use std::alloc::Global;
 
-/// The bundle that a text is; `None` if it is none.
+/// The bundle of a text as it passed its own checks; `None` if the text is not one, or it does not pass them. The
+/// bundle as it was read is not kept.
+pub(crate) fn read_checked(alloc: Global, text: &[u8]) -> Result<Option<CheckedBundle>, OutOfMemory>
+    ensures { IfOk result (IsCheckedIn text.now) }
+{
+    match read(alloc, text)? {
+        Some(bundle) => {
+            let checked = check(alloc, &bundle);
+            drop(bundle);
+            checked
+        }
+        None => Ok(None),
+    }
+}
+
+/// The bundle that a text is; `None` if it is not one.
 pub(crate) fn read(alloc: Global, text: &[u8]) -> Result<Option<Bundle>, OutOfMemory>
     ensures { IfOk result (λ bundle. bundle ≡ result_ok (bundle_in text.now)) }
 {
@@ -35,41 +50,6 @@ pub(crate) fn check(alloc: Global, bundle: &Bundle) -> Result<Option<CheckedBund
     }
 }
 
-/// The bundle of a text as it passed its own checks; `None` if the text is none, or it does not pass them. The bundle as
-/// it was read is not kept.
-pub(crate) fn read_checked(alloc: Global, text: &[u8]) -> Result<Option<CheckedBundle>, OutOfMemory>
-    ensures { IfOk result (IsCheckedIn text.now) }
-{
-    match read(alloc, text)? {
-        Some(bundle) => {
-            let checked = check(alloc, &bundle);
-            drop(bundle);
-            checked
-        }
-        None => Ok(None),
-    }
-}
-
-/// The only log entry of a bundle.
-fn only_entry(bundle: &Bundle) -> Option<&TransparencyLogEntry>
-    ensures { option_map (λ entry. entry.now) result ≡ only_entry_of bundle.now }
-{
-    match &bundle.verification_material {
-        Some(material) => material.tlog_entries.only(),
-        None => None,
-    }
-}
-
-/// The same in memory of its own.
-fn copied_entry(alloc: Global, bundle: &Bundle) -> Result<Option<TransparencyLogEntry>, OutOfMemory>
-    ensures { IfOk result (λ entry. entry ≡ only_entry_of bundle.now) }
-{
-    match only_entry(bundle) {
-        Some(entry) => Ok(Some(entry.copy(alloc)?)),
-        None => Ok(None),
-    }
-}
-
 /// The only log entry of the bundle of a text. The rest of the bundle is not kept.
 pub(crate) fn read_entry(
     alloc: Global,
@@ -84,6 +64,26 @@ pub(crate) fn read_entry(
             entry
         }
         None => Ok(None),
+    }
+}
+
+/// The same in memory of its own.
+fn copied_entry(alloc: Global, bundle: &Bundle) -> Result<Option<TransparencyLogEntry>, OutOfMemory>
+    ensures { IfOk result (λ entry. entry ≡ only_entry_of bundle.now) }
+{
+    match only_entry(bundle) {
+        Some(entry) => Ok(Some(entry.copy(alloc)?)),
+        None => Ok(None),
+    }
+}
+
+/// The log entry, if the bundle has exactly one.
+fn only_entry(bundle: &Bundle) -> Option<&TransparencyLogEntry>
+    ensures { option_map (λ entry. entry.now) result ≡ only_entry_of bundle.now }
+{
+    match &bundle.verification_material {
+        Some(material) => material.tlog_entries.only(),
+        None => None,
     }
 }
 

@@ -1,6 +1,6 @@
 //! What a link compares of a bundle that passed its own checks.
 ghost use Rattle.std.specs.Prelude.{◌≡◌, IfOk, option_map};
-ghost use Rattle.sig_bundle.specs.Written.{members, members_into};
+ghost use Rattle.sig_json.specs.Writing.{members, members_into};
 ghost use Rattle.sig_explain_verify.specs.Evidence.{checked_rows, ctlogs_rows, fulcio_rows, if_there, signed_bytes, signed_rows, tlogs_rows};
 ghost use Rattle.sig_explain_verify.specs.Inputs.{inputs_of};
 ghost use Rattle.sig_explain_verify.specs.Parts.{certificate_key};
@@ -11,13 +11,14 @@ use crate::inputs::VerifyInputs;
 use crate::key::{AskedKey, key_of};
 use crate::root::ShownRoot;
 use sig_base::OutOfMemory;
-use sig_bundle::{ArtifactDigest, Object};
+use sig_bundle::ArtifactDigest;
 use sig_certificate::Certificate;
 use sig_checked_bundle::{CheckedBundle, CheckedContent};
 use sig_evidence::{
     with_accepted_under, with_authorities, with_body, with_issuer, with_logs, with_policy_rules,
     with_sct, with_subjects, with_times,
 };
+use sig_json::Object;
 use sig_shown::with_time;
 use sig_verify::Link;
 use std::alloc::Global;
@@ -131,14 +132,19 @@ pub(crate) fn with_tlogs(
     }
 }
 
-/// The bytes that a signature over the content has to be over.
-fn signed_bytes<'a>(digest: &'a ArtifactDigest, content: &'a CheckedContent) -> Option<&'a [u8]>
-    ensures { option_map (λ bytes. bytes.now) result ≡ signed_bytes digest.now content.now }
+/// The same under the key of the certificate, if signatures are checked with it.
+fn with_signature(
+    object: Object,
+    alloc: Global,
+    inputs: &VerifyInputs<'_>,
+    checked: &CheckedBundle,
+) -> Result<Object, OutOfMemory>
+    ensures { IfOk result (λ made. members made ≡ members_into (members object)
+        (if_there (signed_rows (inputs_of inputs.entry.now) checked.now) (certificate_key checked.now.certificate))) }
 {
-    match (content, digest) {
-        (CheckedContent::Dsse { pae, .. }, _) => Some(pae.as_slice()),
-        (CheckedContent::MessageSignature, ArtifactDigest::Sha256(bytes)) => Some(bytes.as_slice()),
-        (CheckedContent::MessageSignature, ArtifactDigest::Sha512(_)) => None,
+    match key_of(checked.certificate().spki()) {
+        Some(key) => with_signed(object, alloc, inputs, checked, key),
+        None => Ok(object),
     }
 }
 
@@ -167,18 +173,13 @@ fn with_signed(
     }
 }
 
-/// The same under the key of the certificate, if signatures are checked with it.
-fn with_signature(
-    object: Object,
-    alloc: Global,
-    inputs: &VerifyInputs<'_>,
-    checked: &CheckedBundle,
-) -> Result<Object, OutOfMemory>
-    ensures { IfOk result (λ made. members made ≡ members_into (members object)
-        (if_there (signed_rows (inputs_of inputs.entry.now) checked.now) (certificate_key checked.now.certificate))) }
+/// The bytes that a signature over the content has to be over.
+fn signed_bytes<'a>(digest: &'a ArtifactDigest, content: &'a CheckedContent) -> Option<&'a [u8]>
+    ensures { option_map (λ bytes. bytes.now) result ≡ signed_bytes digest.now content.now }
 {
-    match key_of(checked.certificate().spki()) {
-        Some(key) => with_signed(object, alloc, inputs, checked, key),
-        None => Ok(object),
+    match (content, digest) {
+        (CheckedContent::Dsse { pae, .. }, _) => Some(pae.as_slice()),
+        (CheckedContent::MessageSignature, ArtifactDigest::Sha256(bytes)) => Some(bytes.as_slice()),
+        (CheckedContent::MessageSignature, ArtifactDigest::Sha512(_)) => None,
     }
 }

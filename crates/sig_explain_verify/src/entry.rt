@@ -1,6 +1,6 @@
 //! What a link compares of the log entry of a bundle.
 ghost use Rattle.std.specs.Prelude.{◌≡◌, IfOk, IfSome, IsSome, option_map};
-ghost use Rattle.sig_bundle.specs.Written.{members, members_into};
+ghost use Rattle.sig_json.specs.Writing.{members, members_into};
 ghost use Rattle.sig_evidence.specs.Accepted.{asked_note_rows};
 ghost use Rattle.sig_evidence.specs.Trees.{trees_rows};
 ghost use Rattle.sig_explain_verify.specs.Evidence.{entry_rows, if_there, log_key_in, noted_rows, promised_rows};
@@ -15,8 +15,9 @@ use crate::inputs::VerifyInputs;
 use crate::key::{AskedKey, log_key};
 use crate::root::ShownRoot;
 use sig_base::{OutOfMemory, Text};
-use sig_bundle::{Object, TransparencyLogEntry, promise_text};
+use sig_bundle::{TransparencyLogEntry, promise_text};
 use sig_evidence::{with_accepted_note, with_accepted_under, with_log_id, with_trees};
+use sig_json::Object;
 use sig_json_text::CanonicalError;
 use sig_rekor::SignedCheckpoint;
 use sig_verify::Link;
@@ -47,24 +48,6 @@ pub(crate) fn with_entry(
     }
 }
 
-/// The key of the entry's log.
-fn entry_key<'a>(
-    alloc: Global,
-    inputs: &VerifyInputs<'_>,
-    root: &'a ShownRoot,
-    entry: &TransparencyLogEntry,
-) -> Result<Option<AskedKey<'a>>, OutOfMemory>
-    requires { IsShownRoot inputs.now.trusted_root.now inputs.now.now root.now }
-    ensures key { IfOk result (λ found. option_map (λ key. (key.scheme, key.spki.now)) found
-        ≡ log_key_in (inputs_of inputs.entry.now) entry.now) }
-    ensures named { IfOk result (λ found. IfSome found (λ _. IsSome entry.now.log_id)) }
-{
-    match &root.trust {
-        Some(parts) => log_key(alloc, &parts.log_keys, &entry.log_id),
-        None => Ok(None),
-    }
-}
-
 /// The object with the promise, as it was asked about under the key of the log.
 fn with_promise(
     object: Object,
@@ -83,15 +66,21 @@ fn with_promise(
     }
 }
 
-/// The text of the entry's promise; `None` if its integers have no canonical text.
-fn promise_text_of(alloc: Global, entry: &TransparencyLogEntry) -> Result<Option<Text>, OutOfMemory>
-    requires { IsSome entry.now.log_id }
-    ensures { IfOk result (λ text. text ≡ promise_text_of entry.now) }
+/// The key of the entry's log.
+fn entry_key<'a>(
+    alloc: Global,
+    inputs: &VerifyInputs<'_>,
+    root: &'a ShownRoot,
+    entry: &TransparencyLogEntry,
+) -> Result<Option<AskedKey<'a>>, OutOfMemory>
+    requires { IsShownRoot inputs.now.trusted_root.now inputs.now.now root.now }
+    ensures key { IfOk result (λ found. option_map (λ key. (key.scheme, key.spki.now)) found
+        ≡ log_key_in (inputs_of inputs.entry.now) entry.now) }
+    ensures named { IfOk result (λ found. IfSome found (λ _. IsSome entry.now.log_id)) }
 {
-    match promise_text(alloc, entry) {
-        Ok(text) => Ok(Some(text)),
-        Err(CanonicalError::IntegerTooLarge) => Ok(None),
-        Err(CanonicalError::OutOfMemory) => Err(OutOfMemory),
+    match &root.trust {
+        Some(parts) => log_key(alloc, &parts.log_keys, &entry.log_id),
+        None => Ok(None),
     }
 }
 
@@ -128,6 +117,18 @@ fn with_promised(
     }
 }
 
+/// The text of the entry's promise; `None` if its integers have no canonical text.
+fn promise_text_of(alloc: Global, entry: &TransparencyLogEntry) -> Result<Option<Text>, OutOfMemory>
+    requires { IsSome entry.now.log_id }
+    ensures { IfOk result (λ text. text ≡ promise_text_of entry.now) }
+{
+    match promise_text(alloc, entry) {
+        Ok(text) => Ok(Some(text)),
+        Err(CanonicalError::IntegerTooLarge) => Ok(None),
+        Err(CanonicalError::OutOfMemory) => Err(OutOfMemory),
+    }
+}
+
 /// The object with the note, as it was asked about under the key of the log.
 fn with_note(
     object: Object,
@@ -143,19 +144,6 @@ fn with_note(
     match entry_key(alloc, inputs, root, entry)? {
         Some(key) => with_noted(object, alloc, inputs, entry, key),
         None => Ok(object),
-    }
-}
-
-/// The checkpoint of the entry's proof.
-fn read_checkpoint(
-    alloc: Global,
-    entry: &TransparencyLogEntry,
-) -> Result<Option<SignedCheckpoint>, OutOfMemory>
-    ensures { IfOk result (λ found. found ≡ checkpoint_of entry.now) }
-{
-    match read_proof(alloc, entry)? {
-        Some(proof) => Ok(proof.checkpoint),
-        None => Ok(None),
     }
 }
 
@@ -177,6 +165,19 @@ fn with_noted(
             made
         }
         None => Ok(object),
+    }
+}
+
+/// The checkpoint of the entry's proof.
+fn read_checkpoint(
+    alloc: Global,
+    entry: &TransparencyLogEntry,
+) -> Result<Option<SignedCheckpoint>, OutOfMemory>
+    ensures { IfOk result (λ found. found ≡ checkpoint_of entry.now) }
+{
+    match read_proof(alloc, entry)? {
+        Some(proof) => Ok(proof.checkpoint),
+        None => Ok(None),
     }
 }
 

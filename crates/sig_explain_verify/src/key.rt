@@ -16,16 +16,6 @@ pub(crate) struct AskedKey<'a> {
     pub(crate) spki: &'a [u8],
 }
 
-/// The key that these bytes are; `None` if no signature is checked with it.
-pub(crate) fn key_of(spki: &[u8]) -> Option<AskedKey<'_>>
-    ensures { option_map (λ key. (key.scheme, key.spki.now)) result ≡ result_ok (kind_answer spki.now (key_kind spki.now)) }
-{
-    match key_kind(spki) {
-        KeyKind::Scheme(scheme) => Some(AskedKey { scheme, spki }),
-        KeyKind::Unsupported | KeyKind::NoKeyInfo => None,
-    }
-}
-
 /// The key of the log of this id; `None` if there is none of a scheme. Fails only if out of memory.
 pub(crate) fn log_key<'a>(
     alloc: Global,
@@ -43,5 +33,15 @@ pub(crate) fn log_key<'a>(
     match keys.get(name.as_str()) {
         Some(spki) => Ok(key_of(spki)),
         None => Ok(None),
+    }
+}
+
+/// The key that these bytes are; `None` if no signature is checked with it.
+pub(crate) fn key_of(spki: &[u8]) -> Option<AskedKey<'_>>
+    ensures { option_map (λ key. (key.scheme, key.spki.now)) result ≡ result_ok (kind_answer spki.now (key_kind spki.now)) }
+{
+    match key_kind(spki) {
+        KeyKind::Scheme(scheme) => Some(AskedKey { scheme, spki }),
+        KeyKind::Unsupported | KeyKind::NoKeyInfo => None,
     }
 }

@@ -19,7 +19,6 @@ mod entry;
 mod inputs;
 mod key;
 pub mod laws;
-mod picked;
 mod refused;
 mod root;
 mod trust;

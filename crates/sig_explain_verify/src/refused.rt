@@ -1,9 +1,9 @@
 //! A refusal: the error, and what its link compares.
 ghost use Rattle.std.specs.Prelude.{◌≡◌, IfOk, Some};
-ghost use Rattle.sig_bundle.specs.Written.{members, members_into};
+ghost use Rattle.sig_json.specs.Writing.{members, members_into};
 ghost use Rattle.sig_explain_verify.specs.Evidence.{IsEvidence, IsOfChecked, bundle_json_rows, of_entry, root_json_rows};
 ghost use Rattle.sig_explain_verify.specs.Inputs.{inputs_of};
-ghost use Rattle.sig_explain_verify.specs.Refused.{IsRefusedTree, Shows, policy_refusal_rows, told_rows};
+ghost use Rattle.sig_explain_verify.specs.RefusedTree.{IsRefusedTree, Shows, policy_refusal_rows, told_rows};
 ghost use Rattle.sig_explain_verify.specs.ShownRoot.{IsShownRoot};
 ghost use Rattle.sig_json.specs.Data.{no_members, object};
 
@@ -13,26 +13,31 @@ use crate::entry::with_entry;
 use crate::inputs::VerifyInputs;
 use crate::root::ShownRoot;
 use sig_base::OutOfMemory;
-use sig_bundle::Object;
 use sig_document_fault::bundle_fault;
 use sig_evidence::with_document_fault;
 use sig_explanation::{refusal, with_inner_cause};
+use sig_json::Object;
 use sig_policy::RequestPolicy;
 use sig_shown::with_count;
 use sig_verify::{Link, OfflineError};
 use std::alloc::Global;
 
-/// The object of the refusal of a policy.
-fn policy_refusal(alloc: Global, policy: &RequestPolicy) -> Result<Object, OutOfMemory>
-    ensures { IfOk result (λ made. members made ≡ members_into no_members (policy_refusal_rows policy.now)) }
+/// The object of a refusal, under a trusted root that is at hand: see [`refused_explanation`]. The trusted root is not
+/// read again. Fails only if out of memory.
+pub fn refused_explanation_under(
+    alloc: Global,
+    inputs: &VerifyInputs<'_>,
+    root: &ShownRoot,
+    error: &OfflineError,
+) -> Result<Object, OutOfMemory>
+    requires { IsShownRoot inputs.now.trusted_root.now inputs.now.now root.now }
+    ensures { IfOk result (λ made. IsRefusedTree (inputs_of inputs.entry.now) error.now (object (members made))) }
 {
-    let object = Object::new(alloc).with_text(alloc, "link", "policy")?;
-    let (name, rules) = match policy {
-        RequestPolicy::All(rules) => ("AllOf", rules),
-        RequestPolicy::Any(rules) => ("AnyOf", rules),
-    };
-    let object = with_inner_cause(object, alloc, "Policy", name)?;
-    with_count(object, alloc, "total", rules.len() as u64)
+    let object = told(alloc, inputs, error)?;
+    match error.link() {
+        Some(link) => with_evidence(object, alloc, inputs, root, link),
+        None => Ok(object),
+    }
 }
 
 /// The object of an error.
@@ -47,6 +52,49 @@ fn told(
     match error {
         OfflineError::Policy(_) => policy_refusal(alloc, inputs.policy),
         _ => refusal(alloc, error),
+    }
+}
+
+/// The object of the refusal of a policy.
+fn policy_refusal(alloc: Global, policy: &RequestPolicy) -> Result<Object, OutOfMemory>
+    ensures { IfOk result (λ made. members made ≡ members_into no_members (policy_refusal_rows policy.now)) }
+{
+    let object = Object::new(alloc).with_text(alloc, "link", "policy")?;
+    let (name, rules) = match policy {
+        RequestPolicy::All(rules) => ("AllOf", rules),
+        RequestPolicy::Any(rules) => ("AnyOf", rules),
+    };
+    let object = with_inner_cause(object, alloc, "Policy", name)?;
+    with_count(object, alloc, "total", rules.len() as u64)
+}
+
+/// The object with what a link compares.
+fn with_evidence(
+    object: Object,
+    alloc: Global,
+    inputs: &VerifyInputs<'_>,
+    root: &ShownRoot,
+    link: Link,
+) -> Result<Object, OutOfMemory>
+    requires { IsShownRoot inputs.now.trusted_root.now inputs.now.now root.now }
+    ensures { IfOk result (λ made. Shows (IsEvidence (inputs_of inputs.entry.now) (Some link)) (members object) (members made)) }
+{
+    match link {
+        Link::RootJson => with_root_fault(object, alloc, inputs, root),
+        Link::BundleJson => with_bundle_fault(object, alloc, inputs),
+        Link::Fulcio => with_fulcio(object, alloc, inputs, root),
+        Link::Ctfe => with_ctlogs(object, alloc, inputs, root),
+        Link::Issuer
+        | Link::Sct
+        | Link::Policy
+        | Link::Signature
+        | Link::Subject
+        | Link::Body
+        | Link::Time => with_bundle(object, alloc, inputs, root, link),
+        Link::LogKey | Link::Promise | Link::NoteKey | Link::NoteMatch | Link::Inclusion => {
+            with_logged(object, alloc, inputs, root, link)
+        }
+        _ => Ok(object),
     }
 }
 
@@ -125,54 +173,6 @@ fn with_logged(
             drop(entry);
             made
         }
-        None => Ok(object),
-    }
-}
-
-/// The object with what a link compares.
-fn with_evidence(
-    object: Object,
-    alloc: Global,
-    inputs: &VerifyInputs<'_>,
-    root: &ShownRoot,
-    link: Link,
-) -> Result<Object, OutOfMemory>
-    requires { IsShownRoot inputs.now.trusted_root.now inputs.now.now root.now }
-    ensures { IfOk result (λ made. Shows (IsEvidence (inputs_of inputs.entry.now) (Some link)) (members object) (members made)) }
-{
-    match link {
-        Link::RootJson => with_root_fault(object, alloc, inputs, root),
-        Link::BundleJson => with_bundle_fault(object, alloc, inputs),
-        Link::Fulcio => with_fulcio(object, alloc, inputs, root),
-        Link::Ctfe => with_ctlogs(object, alloc, inputs, root),
-        Link::Issuer
-        | Link::Sct
-        | Link::Policy
-        | Link::Signature
-        | Link::Subject
-        | Link::Body
-        | Link::Time => with_bundle(object, alloc, inputs, root, link),
-        Link::LogKey | Link::Promise | Link::NoteKey | Link::NoteMatch | Link::Inclusion => {
-            with_logged(object, alloc, inputs, root, link)
-        }
-        _ => Ok(object),
-    }
-}
-
-/// The object of a refusal, under a trusted root that is at hand: see [`refused_explanation`]. The trusted root is not
-/// read again. Fails only if out of memory.
-pub fn refused_explanation_under(
-    alloc: Global,
-    inputs: &VerifyInputs<'_>,
-    root: &ShownRoot,
-    error: &OfflineError,
-) -> Result<Object, OutOfMemory>
-    requires { IsShownRoot inputs.now.trusted_root.now inputs.now.now root.now }
-    ensures { IfOk result (λ made. IsRefusedTree (inputs_of inputs.entry.now) error.now (object (members made))) }
-{
-    let object = told(alloc, inputs, error)?;
-    match error.link() {
-        Some(link) => with_evidence(object, alloc, inputs, root, link),
         None => Ok(object),
     }
 }

@@ -13,7 +13,7 @@ use sig_table::DocumentFault;
 use sig_x509::CertificatePool;
 use std::alloc::Global;
 
-/// What explanations show of a trusted root at a time, or of a text that is none. It is read once, by
+/// What explanations show of a trusted root at a time, or of a text that is not one. It is read once, by
 /// [`ShownRoot::read`], for all bundles that are explained under it.
 #[derive(Drop)]
 pub struct ShownRoot {
@@ -64,7 +64,7 @@ impl ShownRoot {
     }
 }
 
-/// The trusted root that a text is; `None` if it is none.
+/// The trusted root that a text is; `None` if it is not one.
 fn read_root(alloc: Global, text: &[u8]) -> Result<Option<TrustedRoot>, OutOfMemory>
     ensures { IfOk result (λ root. root ≡ root_in text.now) }
 {
@@ -75,7 +75,7 @@ fn read_root(alloc: Global, text: &[u8]) -> Result<Option<TrustedRoot>, OutOfMem
     }
 }
 
-/// What is wrong with a text that is no trusted root.
+/// What is wrong with a text that is not a trusted root.
 fn fault_of(
     alloc: Global,
     text: &[u8],

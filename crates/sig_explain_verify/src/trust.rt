@@ -5,10 +5,9 @@ ghost use Rattle.sig_explain_verify.specs.Parts.{AreReadAll, IsReadOne};
 ghost use Rattle.sig_explain_verify.specs.ShownRoot.{IsGivenAt, IsPoolOf, IsTrustIn};
 ghost use Rattle.sig_verify.specs.RootLinks.{authorities, rekor_keys};
 
-use crate::picked::{pick_certificates, pick_keys};
 use sig_base::{Entries, KeyMap, OutOfMemory, OwnedList, PoolError};
 use sig_certificate::{Certificate, X509ReadError};
-use sig_root::TrustedRoot;
+use sig_root::{TrustedRoot, pick_certificates, pick_keys};
 use sig_x509::CertificatePool;
 use std::alloc::Global;
 
@@ -62,24 +61,6 @@ fn authorities_of(alloc: Global, root: &TrustedRoot, now: i64) -> Result<Entries
     pick_certificates(alloc, root.certificate_authorities.as_slice(), now)
 }
 
-/// The keys of the logs of signatures.
-fn log_keys_of(alloc: Global, root: &TrustedRoot, now: i64) -> Result<KeyMap, OutOfMemory>
-    ensures { IfOk result (λ keys. keys ≡ rekor_keys root.now now) }
-{
-    pick_keys(alloc, root.tlogs.as_slice(), now)
-}
-
-/// The certificate that these bytes are.
-fn read_certificate(alloc: Global, der: &[u8]) -> Result<Option<Certificate>, OutOfMemory>
-    ensures { IfOk result (IsReadOne der.now) }
-{
-    match Certificate::try_from_der(alloc, der) {
-        Ok(certificate) => Ok(Some(certificate)),
-        Err(X509ReadError::Der) => Ok(None),
-        Err(X509ReadError::OutOfMemory) => Err(OutOfMemory),
-    }
-}
-
 /// The certificates that these bytes are, one by one; `None` if some are none.
 fn read_certificates(
     alloc: Global,
@@ -97,6 +78,17 @@ fn read_certificates(
     Ok(Some(certificates))
 }
 
+/// The certificate that these bytes are.
+fn read_certificate(alloc: Global, der: &[u8]) -> Result<Option<Certificate>, OutOfMemory>
+    ensures { IfOk result (IsReadOne der.now) }
+{
+    match Certificate::try_from_der(alloc, der) {
+        Ok(certificate) => Ok(Some(certificate)),
+        Err(X509ReadError::Der) => Ok(None),
+        Err(X509ReadError::OutOfMemory) => Err(OutOfMemory),
+    }
+}
+
 /// The pool of trust anchors that these bytes are; `None` if some are none.
 #[tactic(auto, using(sig_verify::proofs::AloneAnchors::alone_anchors))]
 fn pool_of(alloc: Global, ders: &Entries) -> Result<Option<CertificatePool>, OutOfMemory>
@@ -110,4 +102,11 @@ fn pool_of(alloc: Global, ders: &Entries) -> Result<Option<CertificatePool>, Out
         // There are no intermediates, and none is asked whether it may issue.
         Err(_) => unreachable!(),
     }
+}
+
+/// The keys of the logs of signatures.
+fn log_keys_of(alloc: Global, root: &TrustedRoot, now: i64) -> Result<KeyMap, OutOfMemory>
+    ensures { IfOk result (λ keys. keys ≡ rekor_keys root.now now) }
+{
+    pick_keys(alloc, root.tlogs.as_slice(), now)
 }

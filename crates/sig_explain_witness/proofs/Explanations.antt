@@ -5,8 +5,9 @@ use Rattle.std.specs.Prelude.{OnOk}
 use Rattle.sig_base.specs.declared.checker.AcceptedRow.{AcceptedRow}
 use Rattle.sig_base.specs.declared.memory.OutOfMemory.{OutOfMemory}
 use Rattle.sig_explain_log.specs.Request.{request_tree}
-use Rattle.sig_explain_witness.specs.Explained.{IsRequestTree, IsUpdatesTree, IsWitnessExplanation, updates_tree}
-use Rattle.sig_explain_witness.specs.Refused.{fault_tree, left_after, most_unsigned, taken_tree, unread_tree}
+use Rattle.sig_explain_witness.specs.WitnessExplanation.{IsRequestTree, IsUpdatesTree, IsWitnessExplanation}
+use Rattle.sig_explain_witness.specs.WitnessExplanation.{updates_tree}
+use Rattle.sig_explain_witness.specs.UpdateTrees.{fault_tree, left_after, most_unsigned, taken_tree, unread_tree}
 use Rattle.sig_explain_witness.specs.Start.{IsNoStart, no_start_tree}
 use Rattle.sig_explain_witness.specs.Walk.{IsReadUpdate, IsShownList, IsShownUpdate, Standing}
 use Rattle.sig_explain_witness.specs.declared.start.NoStart.{NoStart}
@@ -45,7 +46,7 @@ pub no-fault : (text : List ℕ) (found : Option RequestFault) → found ≡ Non
     → ⊥
 no-fault text found none both never = let request = both.0 none in never request.0 request.1
 
--- what was read is no request
+-- what was read is not a request
 pub none-read : (text : List ℕ) (found : Option WitnessRequest) → found ≡ None → IsReadFrom witness_request text found
     → (request : WitnessRequest) → ¬ IsRequestOf witness_request text request
 none-read text found none read = subst (IsReadFrom witness_request text) none read

@@ -1,6 +1,6 @@
 -- Members that are set after others.
 use Rattle.std.proofs.Common.{◌≡◌, List, [], ◌∷◌, ◌++◌, refl}
-use Rattle.sig_bundle.specs.Written.{TreeMember, members_into, put_some}
+use Rattle.sig_json.specs.Writing.{TreeMember, members_into, put_some}
 use Rattle.sig_json.specs.Data.{Members}
 
 pub members_behind : (ms : Members) (rows others : List TreeMember)

@@ -8,7 +8,7 @@ use Rattle.sig_explain_witness.specs.Start.{IsNoStart, StopsAt}
 use Rattle.sig_explain_witness.specs.declared.start.NoStart.{NoStart}
 use Rattle.sig_explain_witness.specs.declared.start.NoStart.TheVariants.{State, Origin}
 use Rattle.sig_witness.proofs.StateBack.{same-answers, same-key}
-use Rattle.sig_witness.specs.Kept.{new_log}
+use Rattle.sig_witness.specs.KeptLogs.{new_log}
 use Rattle.sig_witness.specs.StateCauses.{IsStateFault}
 use Rattle.sig_witness.specs.StateText.{IsStateOf}
 use Rattle.sig_witness.specs.declared.kept_log.KeptLog.{KeptLog}
@@ -52,7 +52,7 @@ stops_here logs after first later is stop =
     let stops = subst (λ (l : Logs). IsUnaddable l stop.one) stop.added stop.stops in
     not_added logs after stop.one (subst (λ (o : OriginKey). IsAdded logs o after) same is) stops
 
--- one that stops behind the first stops among the later ones
+-- one that stops after the first stops among the later ones
 stops_behind : (logs after : Logs) (first : OriginKey) (later : List OriginKey) (place : ℕ) → IsAdded logs first after
     → StopsAt logs (first ∷ later) (suc place) → StopsAt after later place
 stops_behind logs after first later place is stop =

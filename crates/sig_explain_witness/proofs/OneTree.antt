@@ -2,11 +2,11 @@
 use Rattle.std.proofs.Common.{◌≡◌, ◌∙◌, ℕ, List, [], ◌∷◌, Result, inl, inr, ap, subst, sym}
 use Rattle.sig_base.proofs.ResultSteps.{ok_is}
 use Rattle.sig_base.specs.declared.checker.AcceptedRow.{AcceptedRow}
-use Rattle.sig_bundle.specs.Written.{list_tree}
+use Rattle.sig_json.specs.Writing.{list_tree}
 use Rattle.sig_explain_witness.proofs.OneAnswer.{one_answer, one_step}
 use Rattle.sig_explain_witness.proofs.OneStart.{no_reason, one_reason}
-use Rattle.sig_explain_witness.specs.Explained.{IsRequestTree, IsUpdatesTree, updates_tree}
-use Rattle.sig_explain_witness.specs.Refused.{left_by, most_unsigned, update_tree}
+use Rattle.sig_explain_witness.specs.WitnessExplanation.{IsRequestTree, IsUpdatesTree, updates_tree}
+use Rattle.sig_explain_witness.specs.UpdateTrees.{left_by, most_unsigned, update_tree}
 use Rattle.sig_explain_witness.specs.Start.{no_start_tree}
 use Rattle.sig_explain_witness.specs.Walk.{IsReadUpdate, IsShownUpdate, IsShownWalk, Standing}
 use Rattle.sig_explain_witness.specs.declared.start.NoStart.{NoStart}

@@ -2,8 +2,8 @@
 use Rattle.std.proofs.Common.{◌≡◌, ◌<◌, ◌≤◌, ◌+◌, ◌∙◌, ℕ, List, [], ◌∷◌, ◌++◌, length, take, get_or, ap, refl, subst, sym}
 use Rattle.std.proofs.lemmas.List.{take_all, take_more}
 use Rattle.sig_base.specs.declared.checker.AcceptedRow.{AcceptedRow}
-use Rattle.sig_bundle.proofs.Lists.{list_tree-append}
-use Rattle.sig_bundle.specs.Written.{list_tree}
+use Rattle.sig_json.proofs.WrittenLists.{list_tree-append}
+use Rattle.sig_json.specs.Writing.{list_tree}
 use Rattle.sig_explain_witness.specs.Walk.{IsShownList, IsShownUpdate, IsShownWalk, Standing}
 use Rattle.sig_json.specs.Builders.{with_last}
 use Rattle.sig_json.specs.Data.{Data}

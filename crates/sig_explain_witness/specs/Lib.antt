@@ -1,4 +1,4 @@
-pub mod Explained
-pub mod Refused
+pub mod WitnessExplanation
+pub mod UpdateTrees
 pub mod Start
 pub mod Walk

@@ -1,10 +1,10 @@
 -- Why a request of `witness` has no logs to start from, and what is shown of it.
 use Rattle.std.specs.Prelude.{◌≡◌, ℕ, List, [], ◌∷◌, codes, slice_get, take, Option, Some, None, Result, Ok, Err}
-use Rattle.sig_bundle.specs.Written.{TreeMember, object_of}
+use Rattle.sig_json.specs.Writing.{TreeMember, object_of}
 use Rattle.sig_explain_witness.specs.declared.start.NoStart.{NoStart}
 use Rattle.sig_explain_witness.specs.declared.start.NoStart.TheVariants.{State, Origin}
 use Rattle.sig_json.specs.Data.{Data}
-use Rattle.sig_shown.specs.Shown.{count_row, text_row, texts_row}
+use Rattle.sig_shown.specs.ShownValues.{count_row, text_row, texts_row}
 use Rattle.sig_witness.specs.StateCauses.{IsStateFault}
 use Rattle.sig_witness.specs.StateText.{IsStateOf}
 use Rattle.sig_witness.specs.declared.state_error.StateError.{StateError}

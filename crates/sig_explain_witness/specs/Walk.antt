@@ -1,8 +1,8 @@
 -- What is shown of a request's updates, in order.
 use Rattle.std.specs.Prelude.{◌≡◌, ◌⊎◌, ℕ, List, [], ◌∷◌, Result}
 use Rattle.sig_base.specs.declared.checker.AcceptedRow.{AcceptedRow}
-use Rattle.sig_bundle.specs.Written.{list_tree}
-use Rattle.sig_explain_witness.specs.Refused.{left_by, unread_tree, update_tree}
+use Rattle.sig_json.specs.Writing.{list_tree}
+use Rattle.sig_explain_witness.specs.UpdateTrees.{left_by, unread_tree, update_tree}
 use Rattle.sig_json.specs.Data.{Data}
 use Rattle.sig_witness.specs.Causes.{IsUpdateAnswer}
 use Rattle.sig_witness.specs.Updates.{IsStep, Update}

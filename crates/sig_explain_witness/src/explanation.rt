@@ -1,6 +1,7 @@
 //! The explanation of a run of a witness.
 ghost use Rattle.std.specs.Prelude.{◌≡◌, IfOk};
-ghost use Rattle.sig_explain_witness.specs.Explained.{IsRequestTree, IsUpdatesTree, IsWitnessExplanation, updates_tree};
+ghost use Rattle.sig_explain_witness.specs.WitnessExplanation.{IsRequestTree, IsUpdatesTree, IsWitnessExplanation};
+ghost use Rattle.sig_explain_witness.specs.WitnessExplanation.{updates_tree};
 ghost use Rattle.sig_json.specs.Tree.{document_tree};
 ghost use Rattle.sig_request.specs.ReadFrom.{IsRequestOf};
 ghost use Rattle.sig_witness_command.specs.Request.{witness_request};
@@ -10,9 +11,8 @@ use crate::refused::MOST_UNSIGNED;
 use crate::start::{no_start_document, read_start};
 use crate::walk::update_each;
 use sig_base::OutOfMemory;
-use sig_bundle::Object;
 use sig_explain_log::request_explanation;
-use sig_json::Document;
+use sig_json::{Document, Object};
 use sig_shown::with_count;
 use sig_witness::Witness;
 use sig_witness_command::request::WitnessRequest;
@@ -76,7 +76,7 @@ fn updates_document(
 }
 
 /// How many updates there are, and the list of what is shown of each.
-#[tactic(auto, unfolding(crate::specs::Explained::updates_tree))]
+#[tactic(auto, unfolding(crate::specs::WitnessExplanation::updates_tree))]
 fn counted(alloc: Global, request: &WitnessRequest, list: Document) -> Result<Document, OutOfMemory>
     ensures { IfOk result (λ document. document_tree document
         ≡ updates_tree request.now.updates (document_tree list)) }

@@ -5,14 +5,13 @@
 //! {"cause":["Origin"],"index":"1","link":"request"}
 //! ```
 ghost use Rattle.std.specs.Prelude.{◌≡◌, IfOk};
-ghost use Rattle.sig_bundle.specs.Written.{members, members_into};
+ghost use Rattle.sig_json.specs.Writing.{members, members_into};
 ghost use Rattle.sig_explain_witness.specs.Start.{AreAddedOr, IsStartAnswer, no_start_rows, no_start_tree, state_name};
 ghost use Rattle.sig_json.specs.Tree.{document_tree};
 
 use sig_base::OutOfMemory;
-use sig_bundle::Object;
 use sig_explanation::{with_cause, with_inner_cause};
-use sig_json::Document;
+use sig_json::{Document, Object};
 use sig_shown::with_count;
 use sig_witness::{StateError, Witness};
 use sig_witness_command::request::{OriginKey, WitnessRequest};
@@ -26,24 +25,6 @@ pub enum NoStart {
     State(StateError),
     /// The origin at this index, the first such, cannot be added.
     Origin(usize),
-}
-
-/// Adds origins one after another; returns the index of the first that cannot be added, if there is one. Fails only if
-/// out of memory.
-#[tactic(auto, using(crate::proofs::Starts::adding))]
-fn add_all(
-    alloc: Global,
-    witness: &mut Witness,
-    origins: &[OriginKey],
-) -> Result<Option<usize>, OutOfMemory>
-    ensures { IfOk result (AreAddedOr witness.old origins.now witness.new) }
-{
-    'origins: for (place, one) in origins.iter().enumerate() {
-        if !add_one(alloc, witness, one)? {
-            return Ok(Some(place));
-        }
-    }
-    Ok(None)
 }
 
 /// Returns the witness of a request's state, to which each origin was added in order; or why there is none. Fails only if
@@ -66,20 +47,33 @@ pub(crate) fn read_start(
     Ok(Ok(witness))
 }
 
-/// The name of why a text is not the state of a witness.
-fn state_name(error: &StateError) -> &'static str
-    ensures { result.now ≡ state_name error.now }
+/// Adds origins one after another; returns the index of the first that cannot be added, if there is one. Fails only if
+/// out of memory.
+#[tactic(auto, using(crate::proofs::Starts::adding))]
+fn add_all(
+    alloc: Global,
+    witness: &mut Witness,
+    origins: &[OriginKey],
+) -> Result<Option<usize>, OutOfMemory>
+    ensures { IfOk result (AreAddedOr witness.old origins.now witness.new) }
 {
-    match error {
-        StateError::Lines => "Lines",
-        StateError::Origin => "Origin",
-        StateError::Scheme => "Scheme",
-        StateError::Key => "Key",
-        StateError::Size => "Size",
-        StateError::Hash => "Hash",
-        StateError::Root => "Root",
-        StateError::OutOfMemory => "OutOfMemory",
+    'origins: for (place, one) in origins.iter().enumerate() {
+        if !add_one(alloc, witness, one)? {
+            return Ok(Some(place));
+        }
     }
+    Ok(None)
+}
+
+/// The refusal of a request without a witness to start from: its state, or the index of an origin. Fails only if out of
+/// memory.
+#[tactic(auto, unfolding(crate::specs::Start::no_start_tree))]
+pub(crate) fn no_start_document(alloc: Global, why: &NoStart) -> Result<Document, OutOfMemory>
+    ensures { IfOk result (λ document. document_tree document ≡ no_start_tree why.now) }
+{
+    let object = Object::new(alloc).with_text(alloc, "link", "request")?;
+    let object = with_no_start(object, alloc, why)?;
+    Ok(object.into_document())
 }
 
 /// The object with why there is no witness.
@@ -95,13 +89,18 @@ fn with_no_start(object: Object, alloc: Global, why: &NoStart) -> Result<Object,
     }
 }
 
-/// The refusal of a request without a witness to start from: its state, or the index of an origin. Fails only if out of
-/// memory.
-#[tactic(auto, unfolding(crate::specs::Start::no_start_tree))]
-pub(crate) fn no_start_document(alloc: Global, why: &NoStart) -> Result<Document, OutOfMemory>
-    ensures { IfOk result (λ document. document_tree document ≡ no_start_tree why.now) }
+/// The name of why a text is not the state of a witness.
+fn state_name(error: &StateError) -> &'static str
+    ensures { result.now ≡ state_name error.now }
 {
-    let object = Object::new(alloc).with_text(alloc, "link", "request")?;
-    let object = with_no_start(object, alloc, why)?;
-    Ok(object.into_document())
+    match error {
+        StateError::Lines => "Lines",
+        StateError::Origin => "Origin",
+        StateError::Scheme => "Scheme",
+        StateError::Key => "Key",
+        StateError::Size => "Size",
+        StateError::Hash => "Hash",
+        StateError::Root => "Root",
+        StateError::OutOfMemory => "OutOfMemory",
+    }
 }

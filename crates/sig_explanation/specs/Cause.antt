@@ -17,7 +17,7 @@ use Rattle.sig_explanation.specs.Names.{keyring_name, merkle_name, not_ca_name, 
 use Rattle.sig_explanation.specs.Names.{parsing_name, policy_name, profile_01_name, profile_02_name, profile_name}
 use Rattle.sig_explanation.specs.Names.{sct_name, signature_name, trust_part_name, validation_name}
 
--- the names behind the first
+-- the names after the first
 abbrev pub behind_validation : CertificateValidationError → List (List ℕ)
 behind_validation (validation.NotLeaf kind) = not_leaf_name kind ∷ []
 behind_validation (validation.NotCA kind) = not_ca_name kind ∷ []

@@ -1,4 +1,4 @@
 pub mod Cause
-pub mod Kept
+pub mod KeptRows
 pub mod Names
 pub mod Refusal

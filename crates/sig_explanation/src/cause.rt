@@ -1,11 +1,11 @@
 //! The cause of a refusal: the names of an error's variants, the outermost first.
 ghost use Rattle.std.specs.Prelude.{◌≡◌, ◌++◌, ◌∷◌, [], IfOk, OnOk, codes};
-ghost use Rattle.sig_bundle.specs.Written.{members};
+ghost use Rattle.sig_json.specs.Writing.{members};
 ghost use Rattle.sig_explanation.specs.Cause.{behind_bundle, behind_certificate, behind_offline, behind_profile, behind_sct};
 ghost use Rattle.sig_explanation.specs.Cause.{behind_validation, bundle_cause, cause, certificate_cause, profile_cause};
 ghost use Rattle.sig_explanation.specs.Cause.{sct_cause, validation_cause};
 ghost use Rattle.sig_json.specs.Data.{put};
-ghost use Rattle.sig_shown.specs.Shown.{texts_tree};
+ghost use Rattle.sig_shown.specs.ShownValues.{texts_tree};
 
 use crate::names::{
     bundle_name, certificate_name, checkpoint_name, extension_name, json_name, keyring_name,
@@ -14,20 +14,13 @@ use crate::names::{
     validation_name,
 };
 use sig_base::{OutOfMemory, OwnedList, Text};
-use sig_bundle::Object;
 use sig_certificate::CertificateValidationError;
 use sig_checked_bundle::{BundleErrorKind, BundleProfileErrorKind};
+use sig_json::Object;
 use sig_shown::{ShownText, with_list};
 use sig_timestamp::SCTError;
 use sig_verify::{CertificateErrorKind, OfflineError};
 use std::alloc::Global;
-
-/// Adds a name at the end.
-fn push(alloc: Global, names: &mut OwnedList<Text>, name: &str) -> Result<(), OutOfMemory>
-    ensures { OnOk result (names.new ≡ names.old ++ name.now ∷ []) }
-{
-    names.push(Text::copy_of(alloc, name)?)
-}
 
 /// The object with `cause`, a list of one name. Fails only if out of memory.
 pub fn with_cause(object: Object, alloc: Global, name: &str) -> Result<Object, OutOfMemory>
@@ -37,6 +30,13 @@ pub fn with_cause(object: Object, alloc: Global, name: &str) -> Result<Object, O
     let mut names = OwnedList::new(alloc);
     push(alloc, &mut names, name)?;
     with_list::<ShownText>(object, alloc, "cause", names.as_slice())
+}
+
+/// Adds a name at the end.
+fn push(alloc: Global, names: &mut OwnedList<Text>, name: &str) -> Result<(), OutOfMemory>
+    ensures { OnOk result (names.new ≡ names.old ++ name.now ∷ []) }
+{
+    names.push(Text::copy_of(alloc, name)?)
 }
 
 /// The object with `cause`, a list of two names, the outer one first. Fails only if out of memory.
@@ -53,6 +53,55 @@ pub fn with_inner_cause(
     push(alloc, &mut names, name)?;
     push(alloc, &mut names, inner)?;
     with_list::<ShownText>(object, alloc, "cause", names.as_slice())
+}
+
+/// The names of an error's variants, the outermost first. Fails only if out of memory.
+pub(crate) fn cause(alloc: Global, error: &OfflineError) -> Result<OwnedList<Text>, OutOfMemory>
+    ensures { IfOk result (λ names. names ≡ cause error.now) }
+{
+    let mut names = OwnedList::new(alloc);
+    push(alloc, &mut names, offline_name(error))?;
+    push_behind(alloc, &mut names, error)?;
+    Ok(names)
+}
+
+/// Adds the names after the first.
+fn push_behind(
+    alloc: Global,
+    names: &mut OwnedList<Text>,
+    error: &OfflineError,
+) -> Result<(), OutOfMemory>
+    ensures { OnOk result (names.new ≡ names.old ++ behind_offline error.now) }
+{
+    match error {
+        OfflineError::Json(_, error) => push(alloc, names, json_name(error)),
+        OfflineError::TrustRoot(part) => push(alloc, names, trust_part_name(part)),
+        OfflineError::Bundle(kind) => push_bundle(alloc, names, kind),
+        OfflineError::Certificate(kind) => push_certificate(alloc, names, kind),
+        OfflineError::Policy(error) => push(alloc, names, policy_name(error)),
+        OfflineError::Signature(kind) => push(alloc, names, signature_name(kind)),
+        OfflineError::ParseCheckpointError(fault) => push(alloc, names, checkpoint_name(fault)),
+        OfflineError::ConsistencyProofError(error) | OfflineError::InclusionProofError(error) => {
+            push(alloc, names, merkle_name(error))
+        }
+        _ => Ok(()),
+    }
+}
+
+/// Adds the names of why a bundle does not pass its own checks.
+fn push_bundle(
+    alloc: Global,
+    names: &mut OwnedList<Text>,
+    error: &BundleErrorKind,
+) -> Result<(), OutOfMemory>
+    ensures { OnOk result (names.new ≡ names.old ++ bundle_cause error.now) }
+{
+    push(alloc, names, bundle_name(error))?;
+    match error {
+        BundleErrorKind::NoLeaf(error) => push_validation(alloc, names, error),
+        BundleErrorKind::BundleProfile(error) => push_profile(alloc, names, error),
+        _ => Ok(()),
+    }
 }
 
 /// Adds the names of why a certificate has not the profile that is asked for.
@@ -90,34 +139,6 @@ fn push_profile(
     }
 }
 
-/// Adds the names of why a bundle does not pass its own checks.
-fn push_bundle(
-    alloc: Global,
-    names: &mut OwnedList<Text>,
-    error: &BundleErrorKind,
-) -> Result<(), OutOfMemory>
-    ensures { OnOk result (names.new ≡ names.old ++ bundle_cause error.now) }
-{
-    push(alloc, names, bundle_name(error))?;
-    match error {
-        BundleErrorKind::NoLeaf(error) => push_validation(alloc, names, error),
-        BundleErrorKind::BundleProfile(error) => push_profile(alloc, names, error),
-        _ => Ok(()),
-    }
-}
-
-/// Adds the names of why an SCT is not accepted.
-fn push_sct(alloc: Global, names: &mut OwnedList<Text>, error: &SCTError) -> Result<(), OutOfMemory>
-    ensures { OnOk result (names.new ≡ names.old ++ sct_cause error.now) }
-{
-    push(alloc, names, sct_name(error))?;
-    match error {
-        SCTError::Parsing(kind) => push(alloc, names, parsing_name(kind)),
-        SCTError::Verification(kind) => push(alloc, names, keyring_name(kind)),
-        SCTError::Serialization | SCTError::OutOfMemory => Ok(()),
-    }
-}
-
 /// Adds the names of why a certificate is not trusted.
 fn push_certificate(
     alloc: Global,
@@ -135,35 +156,14 @@ fn push_certificate(
     }
 }
 
-/// Adds the names behind the first.
-fn push_behind(
-    alloc: Global,
-    names: &mut OwnedList<Text>,
-    error: &OfflineError,
-) -> Result<(), OutOfMemory>
-    ensures { OnOk result (names.new ≡ names.old ++ behind_offline error.now) }
+/// Adds the names of why an SCT is not accepted.
+fn push_sct(alloc: Global, names: &mut OwnedList<Text>, error: &SCTError) -> Result<(), OutOfMemory>
+    ensures { OnOk result (names.new ≡ names.old ++ sct_cause error.now) }
 {
+    push(alloc, names, sct_name(error))?;
     match error {
-        OfflineError::Json(_, error) => push(alloc, names, json_name(error)),
-        OfflineError::TrustRoot(part) => push(alloc, names, trust_part_name(part)),
-        OfflineError::Bundle(kind) => push_bundle(alloc, names, kind),
-        OfflineError::Certificate(kind) => push_certificate(alloc, names, kind),
-        OfflineError::Policy(error) => push(alloc, names, policy_name(error)),
-        OfflineError::Signature(kind) => push(alloc, names, signature_name(kind)),
-        OfflineError::ParseCheckpointError(fault) => push(alloc, names, checkpoint_name(fault)),
-        OfflineError::ConsistencyProofError(error) | OfflineError::InclusionProofError(error) => {
-            push(alloc, names, merkle_name(error))
-        }
-        _ => Ok(()),
+        SCTError::Parsing(kind) => push(alloc, names, parsing_name(kind)),
+        SCTError::Verification(kind) => push(alloc, names, keyring_name(kind)),
+        SCTError::Serialization | SCTError::OutOfMemory => Ok(()),
     }
-}
-
-/// The names of an error's variants, the outermost first. Fails only if out of memory.
-pub(crate) fn cause(alloc: Global, error: &OfflineError) -> Result<OwnedList<Text>, OutOfMemory>
-    ensures { IfOk result (λ names. names ≡ cause error.now) }
-{
-    let mut names = OwnedList::new(alloc);
-    push(alloc, &mut names, offline_name(error))?;
-    push_behind(alloc, &mut names, error)?;
-    Ok(names)
 }

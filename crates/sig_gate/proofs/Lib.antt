@@ -1,11 +1,11 @@
-pub mod Walking
+pub mod VerdictWalks
 pub mod RuleLists
 pub mod Lines
 pub mod DifferentTexts
-pub mod Sorted
-pub mod Counting
+pub mod SortedTexts
+pub mod BodyCounts
 pub mod Meanings
-pub mod Found
+pub mod FoundVerdicts
 pub mod HeldNames
 pub mod VerifiedEntries
 pub mod Zips

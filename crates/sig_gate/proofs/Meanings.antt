@@ -8,8 +8,9 @@ use Rattle.std.specs.Prelude.{nat_le, nat_lt, if◌then◌else◌}
 use Rattle.sig_gate.proofs.DifferentTexts.{among-first, first-among, later-among, none-among}
 use Rattle.sig_gate.specs.Report.{is_verified}
 use Rattle.sig_gate.specs.RuleHolds.{EachHolds, Holds, IsAdmitted, IsOfOrigin, IsOfSize, OfSome, OneHolds}
-use Rattle.sig_gate.specs.Shown.{IsDifferentCount, checkpoint_of_origin, each_holds, entries_of, holds, larger}
-use Rattle.sig_gate.specs.Shown.{largest_from, one_holds, shows_origin}
+use Rattle.sig_gate.specs.VerifiedBundles.{IsDifferentCount, checkpoint_of_origin, each_holds, entries_of, holds}
+use Rattle.sig_gate.specs.VerifiedBundles.{larger}
+use Rattle.sig_gate.specs.VerifiedBundles.{largest_from, one_holds, shows_origin}
 use Rattle.sig_gate.specs.declared.verdict.BundleVerdict.{BundleVerdict}
 use Rattle.sig_gate.specs.declared.verdict.BundleVerdict.TheVariants.{Verified, Refused}
 use Rattle.sig_manifest.specs.Formula.{Formula, Formulas, at_least, with_origin, with_size, all_of, any_of, not_so}

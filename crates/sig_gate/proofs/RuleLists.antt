@@ -2,7 +2,7 @@
 use Rattle.std.proofs.Common.{◌≡◌, ℕ, ◌+◌, ◌<◌, List, length, drop, get_or, Bool, true, false, refl, sym, ap, ◌∙◌}
 use Rattle.std.proofs.Math.Seq.{drop-length}
 use Rattle.std.proofs.lemmas.List.{at_drop_more}
-use Rattle.sig_gate.specs.Shown.{each_holds, holds, one_holds}
+use Rattle.sig_gate.specs.VerifiedBundles.{each_holds, holds, one_holds}
 use Rattle.sig_gate.specs.declared.verdict.BundleVerdict.{BundleVerdict}
 use Rattle.sig_manifest.specs.Formula.{formula, formulas_of, no_formula, rule_view, rules_of}
 use Rattle.sig_manifest.specs.declared.rule.Rule.{Rule}

@@ -6,7 +6,7 @@ use Rattle.sig_base.proofs.RuleLaws.{none_fails}
 use Rattle.sig_gate.specs.BundleVerdict.{IsBundleVerdict, inputs, outside}
 use Rattle.sig_gate.specs.Gate.{AreVerified, IsVerdict, IsVerified}
 use Rattle.sig_gate.specs.RuleHolds.{IsAdmitted}
-use Rattle.sig_gate.specs.Shown.{entries_of}
+use Rattle.sig_gate.specs.VerifiedBundles.{entries_of}
 use Rattle.sig_gate.specs.declared.verdict.BundleVerdict.{BundleVerdict}
 use Rattle.sig_gate.specs.declared.verdict.BundleVerdict.TheVariants.{Verified, Refused}
 use Rattle.sig_manifest.specs.Artifact.{Asked}

@@ -3,6 +3,6 @@ pub mod RuleHolds
 pub mod Gate
 pub mod Report
 pub mod NamedRoots
-pub mod Judging
-pub mod Shown
+pub mod FoundVerdict
+pub mod VerifiedBundles
 pub mod Laws

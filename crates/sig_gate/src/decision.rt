@@ -3,7 +3,7 @@ ghost use Rattle.std.specs.Prelude.{◌≡◌, ◌↔◌, true, [], ◌∷◌, I
 ghost use Rattle.std.specs.List.{list_any};
 ghost use Rattle.sig_gate.specs.RuleHolds.{IsAdmitted};
 ghost use Rattle.sig_gate.specs.Report.{is_verified};
-ghost use Rattle.sig_gate.specs.Shown.{entries_of, larger, largest_from};
+ghost use Rattle.sig_gate.specs.VerifiedBundles.{entries_of, larger, largest_from};
 ghost use Rattle.sig_manifest.specs.Formula.{rule_view};
 
 use crate::different::count_different;
@@ -52,7 +52,7 @@ fn is_verified(verdict: &BundleVerdict) -> bool
 }
 
 /// The largest tree size of the proofs of bundles that are verified; 0 if none is.
-#[tactic(auto, using(crate::proofs::Walking::sizes))]
+#[tactic(auto, using(crate::proofs::VerdictWalks::sizes))]
 fn largest_size(bundles: &[BundleVerdict]) -> u64
     ensures { result ≡ largest_from 0 (entries_of bundles.now) }
 {

@@ -2,7 +2,7 @@
 ghost use Rattle.std.specs.Prelude.{◌≡◌, ℕ, List, map, Bool, IfOk, length};
 ghost use Rattle.std.specs.List.{list_any};
 ghost use Rattle.sig_gate.specs.RuleHolds.{AreDifferent, bodies_of};
-ghost use Rattle.sig_gate.specs.Shown.{IsDifferentCount, entries_of};
+ghost use Rattle.sig_gate.specs.VerifiedBundles.{IsDifferentCount, entries_of};
 
 use crate::verdict::BundleVerdict;
 use sig_base::OutOfMemory;
@@ -36,7 +36,7 @@ fn different_bodies(alloc: Global, bundles: &[BundleVerdict]) -> Result<Vec<&[u8
 }
 
 /// The log bodies of the verified bundles in their order. Fails only if out of memory.
-#[tactic(auto, using(crate::proofs::Walking::bodies))]
+#[tactic(auto, using(crate::proofs::VerdictWalks::bodies))]
 fn bodies_of(alloc: Global, bundles: &[BundleVerdict]) -> Result<Vec<&[u8]>, OutOfMemory>
     ensures { IfOk result (λ bodies. map (λ body. body.now) bodies.items ≡ bodies_of (entries_of bundles.now)) }
 {

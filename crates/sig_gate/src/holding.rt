@@ -1,7 +1,7 @@
 //! Whether a rule holds of the verified bundles of an artifact.
 ghost use Rattle.std.specs.Prelude.{◌≡◌};
 ghost use Rattle.std.specs.List.{list_any};
-ghost use Rattle.sig_gate.specs.Shown.{checkpoint_of_origin, each_holds, holds, one_holds, shows_origin};
+ghost use Rattle.sig_gate.specs.VerifiedBundles.{checkpoint_of_origin, each_holds, holds, one_holds, shows_origin};
 ghost use Rattle.sig_manifest.specs.Formula.{formulas_of, rule_view, rules_view};
 
 use crate::verdict::BundleVerdict;
@@ -35,6 +35,33 @@ pub(crate) fn holds(rule: &Rule, shown: &Shown<'_>) -> bool
     }
 }
 
+/// Whether the proof of a verified bundle has a checkpoint of a log of this origin.
+fn has_origin(bundles: &[BundleVerdict], origin: &str) -> bool
+    ensures { result ≡ list_any (shows_origin origin.now) bundles.now }
+{
+    bundles.iter().any(|verdict| shows_origin(verdict, origin))
+}
+
+/// Whether a bundle is verified, and the checkpoint of its proof is of a log of this origin.
+fn shows_origin(verdict: &BundleVerdict, origin: &str) -> bool
+    ensures { result ≡ shows_origin origin.now verdict.now }
+{
+    match verdict {
+        BundleVerdict::Verified(entry) => is_of_origin(&entry.proof.checkpoint, origin),
+        BundleVerdict::Refused(_) => false,
+    }
+}
+
+/// Whether there is a checkpoint, of a log of this origin.
+fn is_of_origin(checkpoint: &Option<SignedCheckpoint>, origin: &str) -> bool
+    ensures { result ≡ checkpoint_of_origin origin.now checkpoint.now }
+{
+    match checkpoint {
+        Some(checkpoint) => checkpoint.note.origin.as_str() == origin,
+        None => false,
+    }
+}
+
 /// Whether each rule of a list holds.
 #[cycle(holding)]
 #[tactic(auto, using(crate::proofs::RuleLists::rule_lists))]
@@ -65,31 +92,4 @@ fn one_holds(rules: &Rules, shown: &Shown<'_>) -> bool
         }
     }
     false
-}
-
-/// Whether the proof of a verified bundle has a checkpoint of a log of this origin.
-fn has_origin(bundles: &[BundleVerdict], origin: &str) -> bool
-    ensures { result ≡ list_any (shows_origin origin.now) bundles.now }
-{
-    bundles.iter().any(|verdict| shows_origin(verdict, origin))
-}
-
-/// Whether a bundle is verified, and the checkpoint of its proof is of a log of this origin.
-fn shows_origin(verdict: &BundleVerdict, origin: &str) -> bool
-    ensures { result ≡ shows_origin origin.now verdict.now }
-{
-    match verdict {
-        BundleVerdict::Verified(entry) => is_of_origin(&entry.proof.checkpoint, origin),
-        BundleVerdict::Refused(_) => false,
-    }
-}
-
-/// Whether there is a checkpoint, of a log of this origin.
-fn is_of_origin(checkpoint: &Option<SignedCheckpoint>, origin: &str) -> bool
-    ensures { result ≡ checkpoint_of_origin origin.now checkpoint.now }
-{
-    match checkpoint {
-        Some(checkpoint) => checkpoint.note.origin.as_str() == origin,
-        None => false,
-    }
 }

@@ -3,7 +3,7 @@ ghost use Rattle.std.specs.Prelude.{◌≡◌, IfOk, OnOk, Some};
 ghost use Rattle.std.specs.List.{AllZip};
 ghost use Rattle.sig_base.specs.ByText.{text_lookup};
 ghost use Rattle.sig_gate.specs.BundleVerdict.{IsBundleVerdict};
-ghost use Rattle.sig_gate.specs.Judging.{IsFoundUnder, IsRefusedBy};
+ghost use Rattle.sig_gate.specs.FoundVerdict.{IsFoundUnder, IsRefusedBy};
 ghost use Rattle.sig_gate.specs.NamedRoots.{AreHeld, IsRootNamed};
 ghost use Rattle.sig_gate.specs.declared.named_roots.NamedRoot.TheVariants.{Held};
 ghost use Rattle.sig_manifest.specs.Artifact.{artifact_view};

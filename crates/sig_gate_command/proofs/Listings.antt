@@ -13,7 +13,7 @@ use Rattle.sig_gate_command.proofs.EachOnce.{once-again, once-new, once-same}
 use Rattle.sig_gate_command.specs.Questions.{each_once, most_asked}
 use Rattle.sig_gate_command.specs.RowList.{HasRoom, IsEmptyList, IsListSoFar, IsListed, IsNewRow, IsPut, IsSpent, row_name}
 use Rattle.sig_gate_command.specs.declared.row_list.RowList.{RowList}
-use Rattle.sig_json.proofs.Staying.{is_list-with_last}
+use Rattle.sig_json.proofs.StableKinds.{is_list-with_last}
 use Rattle.sig_json.specs.Data.{Data, depth}
 use Rattle.sig_json.specs.Document.{document_of}
 use Rattle.sig_json.specs.Member.{list_each}

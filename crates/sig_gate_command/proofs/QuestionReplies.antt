@@ -13,7 +13,7 @@ use Rattle.sig_gate_command.specs.Suffice.{GateListsAreGivenBack}
 use Rattle.sig_gate_command.specs.declared.request.GateRequest.{GateRequest}
 use Rattle.sig_manifest.specs.Read.{Parts}
 use Rattle.sig_questions.specs.Questions.{QuestionsAreOneList}
-use Rattle.sig_reply.proofs.Fitting.{wherever_put}
+use Rattle.sig_reply.proofs.FittingLists.{wherever_put}
 use Rattle.sig_reply.proofs.RowsTexts.{fits-beside}
 use Rattle.sig_reply.specs.Reply.{listed, no_request}
 use Rattle.sig_reply.specs.RowsText.{IsDocumentOf, IsReadBack, room_beside, rows_text}

@@ -1,5 +1,5 @@
--- Nothing else matters: of the accepted signatures of a manifest those decide its reply that `questions gate` lists; and
--- a list that is written fits one request with the manifest that it is of.
+-- Nothing else matters: of the accepted signatures of a manifest those alone decide its reply that the bundles ask for,
+-- also where no list was written; and a list that is written fits one request with the manifest that it is of.
 use Rattle.std.specs.Prelude.{◌≡◌, ◌≤◌, ◌↔◌, ℕ, List, ◌++◌, Contains, length}
 use Rattle.sig_base.specs.declared.checker.AcceptedRow.{AcceptedRow}
 use Rattle.sig_gate_command.specs.Questions.{AreGateRows, AsksFor, IsGateQuestionsReply, each_once, gate_inputs}
@@ -17,12 +17,12 @@ use Rattle.sig_witness_command.specs.Suffice.{AreDifferent}
 abbrev pub AskFor : Gate → AcceptedRow → Type 0
 AskFor gate row = (i : Inputs) × Contains (gate_inputs gate) i × AsksFor i row
 
--- two lists of accepted signatures have the same of those that the bundles ask for: of those that `questions gate` lists
+-- two lists of accepted signatures have the same of those that the bundles ask for, also where no list was written
 abbrev pub AgreeOnAsked : Gate → List AcceptedRow → List AcceptedRow → Type 0
 AgreeOnAsked gate one other = (row : AcceptedRow) → AskFor gate row → Contains one row ↔ Contains other row
 
--- Two manifests that differ in nothing but their accepted signatures, and in these in none that `questions gate` lists,
--- have the same reply.
+-- Two manifests that differ in nothing but their accepted signatures, and in these in none that the bundles ask for,
+-- have the same reply, also where no list was written.
 abbrev pub GateQuestionsSuffice : Type 0
 GateQuestionsSuffice =
     (text other : List ℕ) (gate : Gate) (rows changed : List AcceptedRow)

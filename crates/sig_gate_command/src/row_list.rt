@@ -14,7 +14,7 @@ use std::alloc::Global;
 /// A list of signatures, which takes `size` bytes except for its closing bracket, of at most `most`.
 #[derive(Drop)]
 pub struct RowList {
-    /// The list itself.
+    /// The list, with one object for each signature.
     pub list: Document,
     /// How many bytes it takes.
     pub size: usize,

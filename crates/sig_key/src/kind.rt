@@ -1,6 +1,6 @@
 //! What kind of key a SubjectPublicKeyInfo (SPKI) has.
 ghost use Rattle.std.specs.Prelude.{◌≡◌, length, option_map};
-ghost use Rattle.sig_der.specs.Borrowed.{piece_of};
+ghost use Rattle.sig_der.specs.BorrowedElements.{piece_of};
 ghost use Rattle.sig_der.specs.KeyInfoPlaces.{algorithm_of, IsKeyInfoWithin};
 ghost use Rattle.sig_key.specs.declared.kind.KeyKind.{KeyKind as Kind};
 ghost use Rattle.sig_key.specs.Kind.{curve_scheme, parameters_scheme, scheme_by, algorithm_scheme, key_kind, IsKind};
@@ -20,49 +20,29 @@ pub enum KeyKind {
     Scheme(VerifyScheme),
 }
 
-/// Returns the scheme of a curve by its object identifier.
-fn curve_of(curve: &[u8]) -> Option<VerifyScheme>
-    ensures { result ≡ curve_scheme curve.now }
+/// Returns the kind of key that the bytes are: a SubjectPublicKeyInfo with an elliptic curve key on P-256, P-384 or
+/// P-521, with an RSA key or with an Ed25519 key, the last two with any parameters or none; another
+/// SubjectPublicKeyInfo; or none at all. Takes no memory.
+pub fn key_kind(spki: &[u8]) -> KeyKind
+    // The kind that the definition gives, and no other.
+    ensures is { IsKind spki.now result }
+    ensures only { (kind : Kind) → IsKind spki.now kind → kind ≡ result }
+    // What the plain reader returns.
+    ensures exact { result ≡ key_kind spki.now }
 {
-    if curve == oid::P256 {
-        Some(VerifyScheme::ECDSA_P256_SHA256_ASN1)
-    } else if curve == oid::P384 {
-        Some(VerifyScheme::ECDSA_P384_SHA384_ASN1)
-    } else if curve == oid::P521 {
-        Some(VerifyScheme::ECDSA_P521_SHA512_ASN1)
-    } else {
-        None
-    }
+    kind_of(spki)
 }
 
-/// Returns the scheme of the curve that the parameters name.
-fn curve_of_parameters(parameters: Option<Element<'_>>) -> Option<VerifyScheme>
-    ensures { result ≡ parameters_scheme (option_map piece_of parameters.entry) }
+#[tactic(auto, unfolding(crate::specs::Kind::key_kind))]
+fn kind_of(spki: &[u8]) -> KeyKind
+    ensures { result ≡ key_kind spki.now }
 {
-    match parameters {
-        Some(
-            Element {
-                tag: OBJECT_IDENTIFIER,
-                content,
-                ..
-            },
-        ) => curve_of(content),
-        _ => None,
-    }
-}
-
-/// Returns the scheme of an algorithm by its object identifier and parameters.
-fn scheme_of(algorithm: &[u8], parameters: Option<Element<'_>>) -> Option<VerifyScheme>
-    ensures { result ≡ scheme_by algorithm.now (option_map piece_of parameters.entry) }
-{
-    if algorithm == oid::EC_PUBLIC_KEY {
-        curve_of_parameters(parameters)
-    } else if algorithm == oid::RSA {
-        Some(VerifyScheme::RSA_PKCS1_SHA256)
-    } else if algorithm == oid::ED25519 {
-        Some(VerifyScheme::ED25519)
-    } else {
-        None
+    let Some(info) = whole_key_info(spki) else {
+        return KeyKind::NoKeyInfo;
+    };
+    match scheme_at(spki, info) {
+        None => KeyKind::Unsupported,
+        Some(scheme) => KeyKind::Scheme(scheme),
     }
 }
 
@@ -86,28 +66,48 @@ fn scheme_at(spki: &[u8], info: KeyInfoPlaces) -> Option<VerifyScheme>
     }
 }
 
-#[tactic(auto, unfolding(crate::specs::Kind::key_kind))]
-fn kind_of(spki: &[u8]) -> KeyKind
-    ensures { result ≡ key_kind spki.now }
+/// Returns the scheme of an algorithm by its object identifier and parameters.
+fn scheme_of(algorithm: &[u8], parameters: Option<Element<'_>>) -> Option<VerifyScheme>
+    ensures { result ≡ scheme_by algorithm.now (option_map piece_of parameters.entry) }
 {
-    let Some(info) = whole_key_info(spki) else {
-        return KeyKind::NoKeyInfo;
-    };
-    match scheme_at(spki, info) {
-        None => KeyKind::Unsupported,
-        Some(scheme) => KeyKind::Scheme(scheme),
+    if algorithm == oid::EC_PUBLIC_KEY {
+        curve_of_parameters(parameters)
+    } else if algorithm == oid::RSA {
+        Some(VerifyScheme::RSA_PKCS1_SHA256)
+    } else if algorithm == oid::ED25519 {
+        Some(VerifyScheme::ED25519)
+    } else {
+        None
     }
 }
 
-/// Returns the kind of key that the bytes are: a SubjectPublicKeyInfo with an elliptic curve key on P-256, P-384 or
-/// P-521, with an RSA key or with an Ed25519 key, the last two with any parameters or none; another
-/// SubjectPublicKeyInfo; or none at all. Takes no memory.
-pub fn key_kind(spki: &[u8]) -> KeyKind
-    // The kind that the definition gives, and no other.
-    ensures is { IsKind spki.now result }
-    ensures only { (kind : Kind) → IsKind spki.now kind → kind ≡ result }
-    // What the plain reader returns.
-    ensures exact { result ≡ key_kind spki.now }
+/// Returns the scheme of the curve that the parameters name.
+fn curve_of_parameters(parameters: Option<Element<'_>>) -> Option<VerifyScheme>
+    ensures { result ≡ parameters_scheme (option_map piece_of parameters.entry) }
 {
-    kind_of(spki)
+    match parameters {
+        Some(
+            Element {
+                tag: OBJECT_IDENTIFIER,
+                content,
+                ..
+            },
+        ) => curve_of(content),
+        _ => None,
+    }
+}
+
+/// Returns the scheme of a curve by its object identifier.
+fn curve_of(curve: &[u8]) -> Option<VerifyScheme>
+    ensures { result ≡ curve_scheme curve.now }
+{
+    if curve == oid::P256 {
+        Some(VerifyScheme::ECDSA_P256_SHA256_ASN1)
+    } else if curve == oid::P384 {
+        Some(VerifyScheme::ECDSA_P384_SHA384_ASN1)
+    } else if curve == oid::P521 {
+        Some(VerifyScheme::ECDSA_P521_SHA512_ASN1)
+    } else {
+        None
+    }
 }

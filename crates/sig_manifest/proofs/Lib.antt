@@ -1,8 +1,8 @@
 pub mod Elements
 pub mod Levels
-pub mod Looking
+pub mod ArtifactWalks
 pub mod Parts
-pub mod Putting
+pub mod PolicyMaps
 pub mod Refusals
 pub mod RuleViews
 pub mod Sizes

@@ -28,7 +28,7 @@ pub const MOST_NAME: usize = 256;
 pub struct Artifact {
     /// Its name in the report: 1 to 256 characters of ASCII from `!` to `~`, if it was read.
     pub name: Text,
-    /// Its digest.
+    /// The SHA-256 or the SHA-512 of the artifact, which its bundles have to be about.
     pub digest: ArtifactDigest,
     /// The name of the trusted root.
     pub root: Text,
@@ -42,21 +42,6 @@ pub struct Artifact {
 
 /// Artifacts in order.
 pub type Artifacts = OwnedList<Artifact>;
-
-/// Whether a text is the name of an artifact: 1 to 256 bytes, none of them below 21 hex or above 7e hex.
-fn is_name(text: &str) -> bool
-    ensures { result ≡ is_name text.now }
-{
-    let bytes = text.as_bytes();
-    0 < bytes.len() && bytes.len() < MOST_NAME + 1 && are_graphic(bytes)
-}
-
-/// Whether each byte is from 21 hex to 7e hex.
-fn are_graphic(bytes: &[u8]) -> bool
-    ensures { result ≡ are_graphic bytes.now }
-{
-    bytes.iter().all(|byte| 0x20 < *byte && *byte < 0x7f)
-}
 
 /// Reads names of artifacts.
 pub enum NameReader {}
@@ -73,6 +58,21 @@ impl ElementReader for NameReader {
             _ => Err(MemberError::Member),
         }
     }
+}
+
+/// Whether a text is the name of an artifact: 1 to 256 bytes, none of them below 21 hex or above 7e hex.
+fn is_name(text: &str) -> bool
+    ensures { result ≡ is_name text.now }
+{
+    let bytes = text.as_bytes();
+    0 < bytes.len() && bytes.len() < MOST_NAME + 1 && are_graphic(bytes)
+}
+
+/// Whether each byte is from 21 hex to 7e hex.
+fn are_graphic(bytes: &[u8]) -> bool
+    ensures { result ≡ are_graphic bytes.now }
+{
+    bytes.iter().all(|byte| 0x20 < *byte && *byte < 0x7f)
 }
 
 /// Reads texts as their bytes.

@@ -25,8 +25,16 @@ pub struct Manifest {
     pub artifacts: Artifacts,
 }
 
+/// Whether there are so many artifacts as a manifest may have, with so many bundles: from 1 to 256, and at most 256 of
+/// all together.
+pub fn is_within(artifacts: &[Artifact]) -> bool
+    ensures { result ≡ is_within (artifacts_view artifacts.now) }
+{
+    0 < artifacts.len() && artifacts.len() < MOST_ARTIFACTS + 1 && are_few_bundles(artifacts)
+}
+
 /// Whether the artifacts have at most 256 bundles together.
-#[tactic(auto, using(crate::proofs::Looking::bundles))]
+#[tactic(auto, using(crate::proofs::ArtifactWalks::bundles))]
 fn are_few_bundles(artifacts: &[Artifact]) -> bool
     ensures { result ≡ are_few_bundles MOST_BUNDLES (artifacts_view artifacts.now) }
 {
@@ -39,26 +47,6 @@ fn are_few_bundles(artifacts: &[Artifact]) -> bool
         left -= count;
     }
     true
-}
-
-/// Whether there are so many artifacts as a manifest may have, with so many bundles: from 1 to 256, and at most 256 of
-/// all together.
-pub fn is_within(artifacts: &[Artifact]) -> bool
-    ensures { result ≡ is_within (artifacts_view artifacts.now) }
-{
-    0 < artifacts.len() && artifacts.len() < MOST_ARTIFACTS + 1 && are_few_bundles(artifacts)
-}
-
-/// The manifest, if it has so many artifacts as it may have. Fails with `Member` if not.
-fn kept_within(manifest: Manifest) -> Result<Manifest, MemberError>
-    ensures { Answers MemberError.OutOfMemory manifest_view result
-        (or_member (kept_within (manifest_view manifest))) }
-{
-    if is_within(manifest.artifacts.as_slice()) {
-        return Ok(manifest);
-    }
-    drop(manifest);
-    Err(MemberError::Member)
 }
 
 /// Reads the members of a manifest.
@@ -74,4 +62,16 @@ pub(crate) fn read_members(alloc: Global, json: Json<'_, '_>) -> Result<Manifest
         policies: required::<PoliciesReader>(alloc, json, "policies")?,
         artifacts: required_list::<ArtifactReader>(alloc, json, "artifacts")?,
     })
+}
+
+/// The manifest, if it has so many artifacts as it may have. Fails with `Member` if not.
+fn kept_within(manifest: Manifest) -> Result<Manifest, MemberError>
+    ensures { Answers MemberError.OutOfMemory manifest_view result
+        (or_member (kept_within (manifest_view manifest))) }
+{
+    if is_within(manifest.artifacts.as_slice()) {
+        return Ok(manifest);
+    }
+    drop(manifest);
+    Err(MemberError::Member)
 }

@@ -28,7 +28,7 @@ impl ElementReader for PoliciesReader {
 
 /// The policies that the members of an object are. Fails with `Member` if the value is not an object, or a member no
 /// policy.
-#[tactic(auto, using(crate::proofs::Putting::putting))]
+#[tactic(auto, using(crate::proofs::PolicyMaps::putting))]
 fn policies_of(alloc: Global, json: Json<'_, '_>) -> Result<Policies, MemberError>
     ensures { Answers MemberError.OutOfMemory (λ policies. policies) result
         (or_member (policies_of (tree json.entry))) }

@@ -50,38 +50,6 @@ impl Form {
     }
 }
 
-/// The value of an object's member, `None` if it is absent or null, or the value is not an object.
-fn value_of<'a, 't>(json: Json<'a, 't>, name: &str) -> Option<Json<'a, 't>>
-    ensures { option_map tree result ≡ value_of name.now (tree json.entry) }
-{
-    match json.get(name) {
-        Some(value) if !value.is_null() => Some(value),
-        _ => None,
-    }
-}
-
-/// The form, if its member is there.
-fn form_there(form: Form, json: Json<'_, '_>) -> Option<Form>
-    ensures { result ≡ form_there form (tree json.entry) }
-{
-    match value_of(json, form.name()) {
-        Some(_) => Some(form),
-        None => None,
-    }
-}
-
-/// The form that was found before, or the next, if any. Fails with `Member` if both are there.
-#[tactic(auto, unfolding(crate::specs::RuleTable::one_at_most))]
-fn one_at_most(found: Option<Form>, next: Option<Form>) -> Result<Option<Form>, MemberError>
-    ensures { result ≡ or_member (one_at_most found next) }
-{
-    match (found, next) {
-        (found, None) => Ok(found),
-        (None, next) => Ok(next),
-        (Some(_), Some(_)) => Err(MemberError::Member),
-    }
-}
-
 /// The form of a rule. Fails with `Member` if not exactly one of the members is there.
 #[tactic(auto, unfolding(crate::specs::RuleTable::form_of))]
 pub fn form_of(json: Json<'_, '_>) -> Result<Form, MemberError>
@@ -98,28 +66,52 @@ pub fn form_of(json: Json<'_, '_>) -> Result<Form, MemberError>
     found.ok_or(MemberError::Member)
 }
 
-/// How many different log bodies a rule asks for. Fails with `Member` for none, and for more than 16.
-#[tactic(auto, using(crate::proofs::RuleViews::views))]
-fn least_in(least: u64) -> Result<Rule, MemberError>
-    ensures { Answers MemberError.OutOfMemory rule_view result (or_member (least_in least)) }
+/// The form that was found before, or the next, if any. Fails with `Member` if both are there.
+#[tactic(auto, unfolding(crate::specs::RuleTable::one_at_most))]
+fn one_at_most(found: Option<Form>, next: Option<Form>) -> Result<Option<Form>, MemberError>
+    ensures { result ≡ or_member (one_at_most found next) }
 {
-    if 0 < least && least < MOST_LEAST + 1 {
-        return Ok(Rule::Least(least));
+    match (found, next) {
+        (found, None) => Ok(found),
+        (None, next) => Ok(next),
+        (Some(_), Some(_)) => Err(MemberError::Member),
     }
-    Err(MemberError::Member)
 }
 
-/// The rule that asks for the opposite. Fails only if out of memory.
-#[tactic(auto, using(crate::proofs::RuleViews::views))]
-fn negated(alloc: Global, rule: Rule) -> Result<Rule, MemberError>
-    ensures { Answers MemberError.OutOfMemory rule_view result (or_member (Some (not_so (rule_view rule)))) }
+/// The form, if its member is there.
+fn form_there(form: Form, json: Json<'_, '_>) -> Option<Form>
+    ensures { result ≡ form_there form (tree json.entry) }
 {
-    match Box::new(alloc, rule) {
-        Ok(rule) => Ok(Rule::Not(rule)),
-        Err(failed) => {
-            drop(failed);
-            Err(MemberError::OutOfMemory)
-        }
+    match value_of(json, form.name()) {
+        Some(_) => Some(form),
+        None => None,
+    }
+}
+
+/// The value of an object's member, `None` if it is absent or null, or the value is not an object.
+fn value_of<'a, 't>(json: Json<'a, 't>, name: &str) -> Option<Json<'a, 't>>
+    ensures { option_map tree result ≡ value_of name.now (tree json.entry) }
+{
+    match json.get(name) {
+        Some(value) if !value.is_null() => Some(value),
+        _ => None,
+    }
+}
+
+/// Reads rules of at most 64 nodes.
+pub enum RuleReader {}
+
+impl ElementReader for RuleReader {
+    type Item = Rule;
+
+    ghost seen_as = { value_by rule_view };
+
+    ghost meaning = { rule_of };
+
+    #[tactic(auto, unfolding(crate::specs::RuleTable::rule_of))]
+    fn read(alloc: Global, json: Json<'_, '_>) -> Result<Rule, MemberError> {
+        let rule = read_rule(alloc, json, MOST_NODES)?;
+        kept_within(rule)
     }
 }
 
@@ -168,6 +160,17 @@ fn read_as(
     }
 }
 
+/// How many different log bodies a rule asks for. Fails with `Member` for none, and for more than 16.
+#[tactic(auto, using(crate::proofs::RuleViews::views))]
+fn least_in(least: u64) -> Result<Rule, MemberError>
+    ensures { Answers MemberError.OutOfMemory rule_view result (or_member (least_in least)) }
+{
+    if 0 < least && least < MOST_LEAST + 1 {
+        return Ok(Rule::Least(least));
+    }
+    Err(MemberError::Member)
+}
+
 /// Reads a list of at least one rule, in each of which rules nest to at most so many levels.
 #[cycle(rules)]
 #[tactic(auto, using(crate::proofs::Elements::elements))]
@@ -191,20 +194,17 @@ fn read_rules(alloc: Global, list: Json<'_, '_>, levels: usize) -> Result<Rules,
     Ok(rules)
 }
 
-/// Reads rules of at most 64 nodes.
-pub enum RuleReader {}
-
-impl ElementReader for RuleReader {
-    type Item = Rule;
-
-    ghost seen_as = { value_by rule_view };
-
-    ghost meaning = { rule_of };
-
-    #[tactic(auto, unfolding(crate::specs::RuleTable::rule_of))]
-    fn read(alloc: Global, json: Json<'_, '_>) -> Result<Rule, MemberError> {
-        let rule = read_rule(alloc, json, MOST_NODES)?;
-        kept_within(rule)
+/// The rule that asks for the opposite. Fails only if out of memory.
+#[tactic(auto, using(crate::proofs::RuleViews::views))]
+fn negated(alloc: Global, rule: Rule) -> Result<Rule, MemberError>
+    ensures { Answers MemberError.OutOfMemory rule_view result (or_member (Some (not_so (rule_view rule)))) }
+{
+    match Box::new(alloc, rule) {
+        Ok(rule) => Ok(Rule::Not(rule)),
+        Err(failed) => {
+            drop(failed);
+            Err(MemberError::OutOfMemory)
+        }
     }
 }
 

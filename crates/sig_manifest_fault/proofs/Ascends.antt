@@ -15,13 +15,13 @@ use Rattle.json.specs.Lex.{tokens}
 use Rattle.sig_base.proofs.OptionSteps.{some_is}
 use Rattle.sig_base.specs.ByText.{KeysAscend}
 use Rattle.sig_json.proofs.ByOrdering.{holds_of_choice}
-use Rattle.sig_json.proofs.Named.{keys-put}
+use Rattle.sig_json.proofs.NamedTrees.{keys-put}
 use Rattle.sig_json.specs.Data.{Data, null, boolean, number, string, array, object, Items, no_items, item}
 use Rattle.sig_json.specs.Data.{Members, no_members, member, put}
 use Rattle.sig_json.specs.Document.{document_of, without_float}
 use Rattle.sig_json.specs.Find.{get_member}
 use Rattle.sig_json.specs.Members.{members_list}
-use Rattle.sig_json.specs.Named.{AreNamed, HasNamedValues, IsNamedTree}
+use Rattle.sig_json.specs.NamedTree.{AreNamed, HasNamedValues, IsNamedTree}
 use Rattle.sig_json.specs.Read.{max_depth, number_of, of_items, of_json, of_members, read}
 use Rattle.sig_json.specs.Written.{has_float}
 use Rattle.sig_json.specs.declared.error.DocumentError.TheVariants.{Float, NotJson}

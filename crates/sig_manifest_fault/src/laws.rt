@@ -1,7 +1,7 @@
 //! That the table is that of manifests. It has no code.
 ghost use Rattle.std.specs.Prelude.{◌≡◌, ◌↔◌, ℕ, List, None, is_some};
 ghost use Rattle.sig_json.specs.Data.{Data};
-ghost use Rattle.sig_json.specs.Named.{IsNamedTree};
+ghost use Rattle.sig_json.specs.NamedTree.{IsNamedTree};
 ghost use Rattle.sig_manifest.specs.Manifest.{with_accepted};
 ghost use Rattle.sig_manifest_fault.specs.ManifestFault.{IsManifest, manifest_fault_in};
 ghost use Rattle.sig_manifest_fault.specs.ManifestTable.{manifest_table};

@@ -58,13 +58,6 @@ impl MemberTable for ManifestTable {
     }
 }
 
-/// The first fault of a text that has to be a manifest, whatever its artifacts name.
-fn table_fault(alloc: Global, text: &[u8]) -> Result<Option<RequestFault>, OutOfMemory>
-    ensures { IfOk result (λ found. found ≡ request_fault_in manifest_table text.now) }
-{
-    request_fault::<ManifestTable>(alloc, text)
-}
-
 /// Returns what is wrong with a text that has to be a manifest, or `None` if and only if it is one: that it has more than
 /// 2^24 bytes; else that it is not JSON, or has a float; else the first member that breaks the table, in its order; else
 /// the first artifact that names a trusted root, or else a policy, that is not there, as a member beyond its range. Fails
@@ -85,4 +78,11 @@ fn find(alloc: Global, text: &[u8]) -> Result<Option<RequestFault>, OutOfMemory>
         Some(fault) => Ok(Some(fault)),
         None => unknown_name(alloc, text),
     }
+}
+
+/// The first fault of a text that has to be a manifest, whatever its artifacts name.
+fn table_fault(alloc: Global, text: &[u8]) -> Result<Option<RequestFault>, OutOfMemory>
+    ensures { IfOk result (λ found. found ≡ request_fault_in manifest_table text.now) }
+{
+    request_fault::<ManifestTable>(alloc, text)
 }

@@ -22,19 +22,72 @@ use std::alloc::Global;
 /// The members of a rule.
 const FORMS: [&str; 6] = ["least", "origin", "size", "all", "any", "not"];
 
-/// Whether an integer that is there is from 1 to 16.
-#[tactic(auto, using(sig_table::proofs::Integers::integers), unfolding(crate::specs::RuleTable::least_kind))]
-fn is_least(json: Json<'_, '_>) -> bool
-    ensures { (value : Data) → member_in (codes "least") (tree json.entry) ≡ Some value
-        → result ≡ is_some (least_kind value) }
-{
-    match read_u64(json, "least") {
-        Ok(least) => 0 < least && least < MOST_LEAST + 1,
-        Err(_) => false,
+/// The table of rules that nest to at most 64 levels.
+pub(crate) enum NestedTable {}
+
+impl MemberTable for NestedTable {
+    ghost table = { nested 64 };
+
+    fn check(alloc: Global, json: Json<'_, '_>) -> Result<(), TableError> {
+        rule(alloc, json, MOST_NODES)
     }
 }
 
-/// The row of the range of `least`, behind that of its kind.
+/// Checks a rule in which rules nest to at most so many levels.
+#[cycle(rules)]
+#[tactic(auto, using(crate::proofs::RuleLevels::levels))]
+pub(crate) fn rule(alloc: Global, json: Json<'_, '_>, levels: usize) -> Result<(), TableError>
+    ensures { Answers TableError.OutOfMemory (λ x. x) result
+        (or_fault (fault_of (nested levels) (tree json.entry))) }
+{
+    if levels == 0 {
+        return Err(fault_here(alloc, Cause::BeyondRange));
+    }
+    match form_there(json) {
+        Some(form) => rule_as(alloc, form, json, levels - 1),
+        None => no_form(alloc, json),
+    }
+}
+
+/// The form of a value, if it has one.
+#[tactic(auto, using(crate::proofs::RuleLevels::forms))]
+fn form_there(json: Json<'_, '_>) -> Option<Form>
+    ensures { result ≡ form_of (tree json.entry) }
+{
+    match form_of(json) {
+        Ok(form) => Some(form),
+        Err(_) => None,
+    }
+}
+
+/// Checks a rule of this form, in which rules nest to at most so many levels below it.
+#[cycle(rules)]
+#[tactic(auto, using(sig_table::proofs::Steps::steps), unfolding(crate::specs::RuleTable::form_table))]
+fn rule_as(alloc: Global, form: Form, json: Json<'_, '_>, levels: usize) -> Result<(), TableError>
+    ensures { Answers TableError.OutOfMemory (λ x. x) result
+        (or_fault (fault_of (form_table (nested levels) form) (tree json.entry))) }
+{
+    match form {
+        Form::Least => least_rule(alloc, json),
+        Form::Origin => origin_rule(alloc, json),
+        Form::Size => size_rule(alloc, json),
+        Form::All => rules_under(alloc, json, "all", levels),
+        Form::Any => rules_under(alloc, json, "any", levels),
+        Form::Not => rule_under(alloc, json, levels),
+    }
+}
+
+/// A rule that asks for different log bodies.
+#[tactic(auto, using(sig_table::proofs::Steps::steps), unfolding(crate::specs::RuleTable::least_table))]
+fn least_rule(alloc: Global, json: Json<'_, '_>) -> Result<(), TableError>
+    ensures { Answers TableError.OutOfMemory (λ x. x) result (or_fault (fault_of least_table (tree json.entry))) }
+{
+    object(alloc, json)?;
+    required_u64(alloc, json, "least")?;
+    least_in_range(alloc, json)
+}
+
+/// The row of the range of `least`, after that of its kind.
 fn least_in_range(alloc: Global, json: Json<'_, '_>) -> Result<(), TableError>
     ensures { Answers TableError.OutOfMemory (λ x. x) result
         (or_fault (row_fault (required_row (codes "least") (range_table least_kind)) (tree json.entry))) }
@@ -47,14 +100,16 @@ fn least_in_range(alloc: Global, json: Json<'_, '_>) -> Result<(), TableError>
     Err(behind_name(alloc, "least", fault_here(alloc, cause)))
 }
 
-/// A rule that asks for different log bodies.
-#[tactic(auto, using(sig_table::proofs::Steps::steps), unfolding(crate::specs::RuleTable::least_table))]
-fn least_rule(alloc: Global, json: Json<'_, '_>) -> Result<(), TableError>
-    ensures { Answers TableError.OutOfMemory (λ x. x) result (or_fault (fault_of least_table (tree json.entry))) }
+/// Whether an integer that is there is from 1 to 16.
+#[tactic(auto, using(sig_table::proofs::Integers::integers), unfolding(crate::specs::RuleTable::least_kind))]
+fn is_least(json: Json<'_, '_>) -> bool
+    ensures { (value : Data) → member_in (codes "least") (tree json.entry) ≡ Some value
+        → result ≡ is_some (least_kind value) }
 {
-    object(alloc, json)?;
-    required_u64(alloc, json, "least")?;
-    least_in_range(alloc, json)
+    match read_u64(json, "least") {
+        Ok(least) => 0 < least && least < MOST_LEAST + 1,
+        Err(_) => false,
+    }
 }
 
 /// A rule that asks for a log.
@@ -75,69 +130,6 @@ fn size_rule(alloc: Global, json: Json<'_, '_>) -> Result<(), TableError>
 {
     object(alloc, json)?;
     required_u64(alloc, json, "size")
-}
-
-/// The row of the members of a rule: one at most is there.
-#[tactic(auto, unfolding(crate::specs::RuleTable::form_names))]
-fn one_of_forms(alloc: Global, json: Json<'_, '_>) -> Result<(), TableError>
-    ensures { Answers TableError.OutOfMemory (λ x. x) result
-        (or_fault (row_fault (oneof_row form_names) (tree json.entry))) }
-{
-    at_most_one(alloc, json, &FORMS)
-}
-
-/// A value of which not exactly one of the members is there.
-#[tactic(auto, using(sig_table::proofs::Steps::steps), unfolding(crate::specs::RuleTable::no_form_table))]
-fn no_form(alloc: Global, json: Json<'_, '_>) -> Result<(), TableError>
-    ensures { Answers TableError.OutOfMemory (λ x. x) result (or_fault (fault_of no_form_table (tree json.entry))) }
-{
-    object(alloc, json)?;
-    one_of_forms(alloc, json)?;
-    required::<Nothing>(alloc, json, "least")
-}
-
-/// The form of a value, if it has one.
-#[tactic(auto, using(crate::proofs::RuleLevels::forms))]
-fn form_there(json: Json<'_, '_>) -> Option<Form>
-    ensures { result ≡ form_of (tree json.entry) }
-{
-    match form_of(json) {
-        Ok(form) => Some(form),
-        Err(_) => None,
-    }
-}
-
-/// Checks a rule in which rules nest to at most so many levels.
-#[cycle(rules)]
-#[tactic(auto, using(crate::proofs::RuleLevels::levels))]
-pub(crate) fn rule(alloc: Global, json: Json<'_, '_>, levels: usize) -> Result<(), TableError>
-    ensures { Answers TableError.OutOfMemory (λ x. x) result
-        (or_fault (fault_of (nested levels) (tree json.entry))) }
-{
-    if levels == 0 {
-        return Err(fault_here(alloc, Cause::BeyondRange));
-    }
-    match form_there(json) {
-        Some(form) => rule_as(alloc, form, json, levels - 1),
-        None => no_form(alloc, json),
-    }
-}
-
-/// Checks a rule of this form, in which rules nest to at most so many levels below it.
-#[cycle(rules)]
-#[tactic(auto, using(sig_table::proofs::Steps::steps), unfolding(crate::specs::RuleTable::form_table))]
-fn rule_as(alloc: Global, form: Form, json: Json<'_, '_>, levels: usize) -> Result<(), TableError>
-    ensures { Answers TableError.OutOfMemory (λ x. x) result
-        (or_fault (fault_of (form_table (nested levels) form) (tree json.entry))) }
-{
-    match form {
-        Form::Least => least_rule(alloc, json),
-        Form::Origin => origin_rule(alloc, json),
-        Form::Size => size_rule(alloc, json),
-        Form::All => rules_under(alloc, json, "all", levels),
-        Form::Any => rules_under(alloc, json, "any", levels),
-        Form::Not => rule_under(alloc, json, levels),
-    }
 }
 
 /// Checks an object whose member of this name is a list of at least one rule.
@@ -230,13 +222,21 @@ fn each_rule(alloc: Global, json: Json<'_, '_>, levels: usize) -> Result<(), Tab
     Ok(())
 }
 
-/// The table of rules that nest to at most 64 levels.
-pub(crate) enum NestedTable {}
+/// A value of which not exactly one of the members is there.
+#[tactic(auto, using(sig_table::proofs::Steps::steps), unfolding(crate::specs::RuleTable::no_form_table))]
+fn no_form(alloc: Global, json: Json<'_, '_>) -> Result<(), TableError>
+    ensures { Answers TableError.OutOfMemory (λ x. x) result (or_fault (fault_of no_form_table (tree json.entry))) }
+{
+    object(alloc, json)?;
+    one_of_forms(alloc, json)?;
+    required::<Nothing>(alloc, json, "least")
+}
 
-impl MemberTable for NestedTable {
-    ghost table = { nested 64 };
-
-    fn check(alloc: Global, json: Json<'_, '_>) -> Result<(), TableError> {
-        rule(alloc, json, MOST_NODES)
-    }
+/// The row of the members of a rule: one at most is there.
+#[tactic(auto, unfolding(crate::specs::RuleTable::form_names))]
+fn one_of_forms(alloc: Global, json: Json<'_, '_>) -> Result<(), TableError>
+    ensures { Answers TableError.OutOfMemory (λ x. x) result
+        (or_fault (row_fault (oneof_row form_names) (tree json.entry))) }
+{
+    at_most_one(alloc, json, &FORMS)
 }

@@ -11,25 +11,6 @@ use sig_request_fault::RequestFault;
 use sig_table::{Cause, DocumentFault, TableError, behind_index, behind_name, fault_here};
 use std::alloc::Global;
 
-/// The member of this name of the artifact at this index, beyond its range.
-fn member_fault(alloc: Global, place: usize, name: &str) -> TableError
-    ensures { OrMemory TableError.OutOfMemory result (result ≡ Fault (member_of_artifact place name.now)) }
-{
-    let member = behind_name(alloc, name, fault_here(alloc, Cause::BeyondRange));
-    let artifact = behind_index(place, member);
-    behind_name(alloc, "artifacts", artifact)
-}
-
-/// The same as what is wrong with a text.
-fn at_artifact(alloc: Global, place: usize, name: &str) -> Result<Option<RequestFault>, OutOfMemory>
-    ensures { IfOk result (λ found. found ≡ at_artifact place name.now) }
-{
-    match member_fault(alloc, place, name) {
-        TableError::Fault(fault) => Ok(Some(RequestFault::Document(DocumentFault::Member(fault)))),
-        TableError::OutOfMemory => Err(OutOfMemory),
-    }
-}
-
 /// What is wrong with a text because of what artifacts name; `None` if they name what is there, or if the text is not a
 /// manifest for another reason. Fails only if out of memory.
 pub(crate) fn unknown_name(alloc: Global, text: &[u8]) -> Result<Option<RequestFault>, OutOfMemory>
@@ -45,4 +26,23 @@ pub(crate) fn unknown_name(alloc: Global, text: &[u8]) -> Result<Option<RequestF
         Err(ManifestError::NotJson | ManifestError::Float | ManifestError::Member) => Ok(None),
         Err(ManifestError::OutOfMemory) => Err(OutOfMemory),
     }
+}
+
+/// The same as what is wrong with a text.
+fn at_artifact(alloc: Global, place: usize, name: &str) -> Result<Option<RequestFault>, OutOfMemory>
+    ensures { IfOk result (λ found. found ≡ at_artifact place name.now) }
+{
+    match member_fault(alloc, place, name) {
+        TableError::Fault(fault) => Ok(Some(RequestFault::Document(DocumentFault::Member(fault)))),
+        TableError::OutOfMemory => Err(OutOfMemory),
+    }
+}
+
+/// The member of this name of the artifact at this index, beyond its range.
+fn member_fault(alloc: Global, place: usize, name: &str) -> TableError
+    ensures { OrMemory TableError.OutOfMemory result (result ≡ Fault (member_of_artifact place name.now)) }
+{
+    let member = behind_name(alloc, name, fault_here(alloc, Cause::BeyondRange));
+    let artifact = behind_index(place, member);
+    behind_name(alloc, "artifacts", artifact)
 }

@@ -61,6 +61,20 @@ fn write_fronts<L: Ledger>(
     );
 }
 
+/// Returns how many of the counts, from the first, are at most this.
+#[tactic(auto, using(crate::proofs::FrontLists::counts_within))]
+fn count_within(counts: &[usize], most: usize) -> usize
+    ensures value { result ≡ within_len most counts.now }
+    ensures bound { result ≤ length counts.now }
+{
+    'counts: for (place, count) in counts.iter().enumerate() {
+        if *count > most {
+            return place;
+        }
+    }
+    counts.len()
+}
+
 /// Writes the root for each count of these entries, which are those after `start`; returns the root of all.
 fn write_roots<L: Ledger>(
     entries: &[Bytes],
@@ -95,20 +109,6 @@ fn write_roots<L: Ledger>(
     let other = write_roots(right, middle, high, high_roots, repeats, steps);
     put_left(&one, high_roots, steps);
     hash_step(&one, &other, steps)
-}
-
-/// Returns how many of the counts, from the first, are at most this.
-#[tactic(auto, using(crate::proofs::FrontLists::counts_within))]
-fn count_within(counts: &[usize], most: usize) -> usize
-    ensures value { result ≡ within_len most counts.now }
-    ensures bound { result ≤ length counts.now }
-{
-    'counts: for (place, count) in counts.iter().enumerate() {
-        if *count > most {
-            return place;
-        }
-    }
-    counts.len()
 }
 
 /// Writes the root of the only entry for each count.

@@ -86,14 +86,6 @@ fn shift(size: u64) -> u32
     size.trailing_zeros()
 }
 
-/// Returns whether a tree of this size is one full node.
-fn is_full(size: u64) -> bool
-    requires { 0 < size }
-    ensures { result ≡ nat_eq size (2 ^ shift_of size) }
-{
-    size == 1 << shift(size)
-}
-
 /// Returns the number of hashes of a proof before the walk: none where the old root is the hash that it starts at.
 #[tactic(auto, using(crate::proofs::GrowthSteps::takes_seed))]
 fn taken(old_size: u64) -> u64
@@ -103,25 +95,12 @@ fn taken(old_size: u64) -> u64
     if is_full(old_size) { 0 } else { 1 }
 }
 
-/// Returns the hash of the last node that the old tree fills, and the hashes above it.
-#[tactic(auto, using(crate::proofs::GrowthSteps::takes_seed))]
-fn start<'a>(
-    old_size: u64,
-    old_root: &'a [u8; 32],
-    proof_hashes: &'a [[u8; 32]],
-) -> (&'a [u8; 32], &'a [[u8; 32]])
-    requires some { 0 < old_size }
-    requires enough { seed_len old_size ≤ length proof_hashes.now }
-    ensures seed { result.0.now ≡ seed_of old_size old_root.now proof_hashes.now }
-    ensures rest { result.1.now ≡ drop (seed_len old_size) proof_hashes.now }
+/// Returns whether a tree of this size is one full node.
+fn is_full(size: u64) -> bool
+    requires { 0 < size }
+    ensures { result ≡ nat_eq size (2 ^ shift_of size) }
 {
-    if is_full(old_size) {
-        return (old_root, proof_hashes);
-    }
-    match proof_hashes.split_first() {
-        Some((first, rest)) => (first, rest),
-        None => (old_root, proof_hashes),
-    }
+    size == 1 << shift(size)
 }
 
 /// Returns the roots that a proof of the right number of hashes leads to.
@@ -151,5 +130,26 @@ pub(crate) fn walk_growth<L: Ledger>(
     Roots {
         old: chain_border_right(&old, border_hashes, steps),
         new: chain_border_right(&new, border_hashes, steps),
+    }
+}
+
+/// Returns the hash of the last node that the old tree fills, and the hashes above it.
+#[tactic(auto, using(crate::proofs::GrowthSteps::takes_seed))]
+fn start<'a>(
+    old_size: u64,
+    old_root: &'a [u8; 32],
+    proof_hashes: &'a [[u8; 32]],
+) -> (&'a [u8; 32], &'a [[u8; 32]])
+    requires some { 0 < old_size }
+    requires enough { seed_len old_size ≤ length proof_hashes.now }
+    ensures seed { result.0.now ≡ seed_of old_size old_root.now proof_hashes.now }
+    ensures rest { result.1.now ≡ drop (seed_len old_size) proof_hashes.now }
+{
+    if is_full(old_size) {
+        return (old_root, proof_hashes);
+    }
+    match proof_hashes.split_first() {
+        Some((first, rest)) => (first, rest),
+        None => (old_root, proof_hashes),
     }
 }

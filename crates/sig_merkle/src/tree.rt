@@ -95,13 +95,6 @@ pub(crate) fn tree_in<L: Ledger>(
     }
 }
 
-/// Whether both halves have the same entries. Entries of different lengths are told apart by these alone.
-fn is_repeated(left: &[Bytes], right: &[Bytes]) -> bool
-    ensures { IsTrue result ↔ (left.now ≡ right.now) }
-{
-    left == right
-}
-
 /// Adds the audit path of the entry at the index.
 #[tactic(auto, using(crate::proofs::HalfSteps::pushes_path))]
 fn push_path(path: &mut Hashes, entries: &[Bytes], index: usize) -> Result<(), OutOfMemory>
@@ -127,4 +120,11 @@ pub(crate) fn halves(entries: &[Bytes]) -> (&[Bytes], &[Bytes])
     ensures { AreHalves entries.now result.0.now result.1.now }
 {
     entries.split_at(split_point(entries.len() as u64) as usize)
+}
+
+/// Whether both halves have the same entries. Entries of different lengths are told apart by these alone.
+fn is_repeated(left: &[Bytes], right: &[Bytes]) -> bool
+    ensures { IsTrue result ↔ (left.now ≡ right.now) }
+{
+    left == right
 }

@@ -6,7 +6,7 @@ use Rattle.sig_base.proofs.OptionSteps.{bind_is, some_is}
 use Rattle.sig_der.proofs.Many.{Shrinks, goes_on, with_front}
 use Rattle.sig_der.proofs.Takings.{take_tag_shrinks}
 use Rattle.sig_der.specs.Tag.{SET}
-use Rattle.sig_der.specs.Taking.{many_at, take_tag}
+use Rattle.sig_der.specs.FrontReaders.{many_at, take_tag}
 use Rattle.sig_name.specs.Name.{Part, attribute_in, part_at}
 use Rattle.sig_name.specs.Seen.{all_seen, seen}
 use Rattle.sig_name.specs.declared.name.NamePart.{NamePart}

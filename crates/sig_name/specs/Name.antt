@@ -6,7 +6,7 @@ use Rattle.std.specs.Prelude.{ℕ, List, [], ◌∷◌, length, Bool, ◌&&◌, 
 use Rattle.std.specs.Str.{bytes_eq}
 use Rattle.sig_base.specs.OptionSteps.{◌>>=◌}
 use Rattle.sig_der.specs.Tag.{OBJECT_IDENTIFIER, SEQUENCE, SET, UTF8_STRING}
-use Rattle.sig_der.specs.Taking.{many_at, take_any, take_tag, take_whole}
+use Rattle.sig_der.specs.FrontReaders.{many_at, take_any, take_tag, take_whole}
 
 -- the name of an attribute's type, and its value
 abbrev pub Part : Type 0

@@ -11,7 +11,7 @@ use Rattle.sig_name.specs.Name.{Part, parts_in}
 abbrev pub is_special : ℕ → Bool
 is_special b = (b == 34) || (b == 43) || (b == 44) || (b == 59) || (b == 60) || (b == 62) || (b == 92)
 
--- behind a backslash, as is; and the null character as two digits
+-- after a backslash, as is; and the null character as two digits
 abbrev pub escaped : ℕ → List ℕ
 escaped b = if is_special b then 92 ∷ b ∷ [] else if b == 0 then 92 ∷ 48 ∷ 48 ∷ [] else b ∷ []
 
@@ -54,6 +54,6 @@ text_in bytes = if is_utf8 bytes then Some bytes else None
 abbrev pub text_if : List Part → Option (List ℕ)
 text_if parts = if nat_le (length parts) most_parts then text_in (parts_text parts) else None
 
--- the text of a name; none where the bytes are no such name, it has more parts, or a value is not UTF-8
+-- the text of a name; none where the bytes are not such a name, it has more parts, or a value is not UTF-8
 abbrev pub name_text : List ℕ → Option (List ℕ)
 name_text der = parts_in der >>= text_if

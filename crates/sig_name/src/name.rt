@@ -1,6 +1,6 @@
 //! The parts of a distinguished name (RFC 5280 section 4.1.2.4), borrowed from its DER.
 ghost use Rattle.std.specs.Prelude.{◌≡◌, IfOk, option_map};
-ghost use Rattle.sig_der.specs.Taking.{many_at};
+ghost use Rattle.sig_der.specs.FrontReaders.{many_at};
 ghost use Rattle.sig_name.specs.Name.{attribute_in, is_text_tag, part_at, parts_in, type_name};
 ghost use Rattle.sig_name.specs.Seen.{all_seen, seen};
 
@@ -39,6 +39,64 @@ pub(crate) struct NamePart<'a> {
     pub(crate) value: &'a [u8],
 }
 
+/// The parts of the name that the bytes are (DER), in order. `None` if they are not a name of parts with an attribute
+/// each, of a type that has a name and of a value that is a text. Fails only if out of memory.
+#[tactic(auto, unfolding(crate::specs::Name::parts_in))]
+pub(crate) fn parts_in(alloc: Global, der: &[u8]) -> Result<Option<Vec<NamePart<'_>>>, OutOfMemory>
+    ensures { IfOk result (λ found. option_map (λ parts. all_seen parts.items) found ≡ parts_in der.now) }
+{
+    match take_whole(der, tag::SEQUENCE) {
+        Some(name) => parts_of(alloc, name.content),
+        None => Ok(None),
+    }
+}
+
+/// The parts that the bytes are, one after another. `None` if they are not parts.
+fn parts_of(alloc: Global, bytes: &[u8]) -> Result<Option<Vec<NamePart<'_>>>, OutOfMemory>
+    ensures { IfOk result (λ found. option_map (λ parts. all_seen parts.items) found ≡ many_at part_at bytes.now) }
+{
+    let mut found = Vec::new(alloc);
+    let mut rest = bytes;
+    'parts: while !rest.is_empty() {
+        let Some((part, after)) = part_at(rest) else {
+            drop(found);
+            return Ok(None);
+        };
+        found.push(part)?;
+        rest = after;
+    }
+    Ok(Some(found))
+}
+
+/// The part at the front of the bytes, and what follows it.
+#[tactic(auto, unfolding(crate::specs::Name::part_at))]
+fn part_at(bytes: &[u8]) -> Option<(NamePart<'_>, &[u8])>
+    ensures { option_map (λ x. (seen x.0, x.1.now)) result ≡ part_at bytes.now }
+{
+    let (set, rest) = take_tag(bytes, tag::SET)?;
+    let attribute = attribute_in(set.content)?;
+    Some((attribute, rest))
+}
+
+/// The attribute that the bytes are.
+#[tactic(auto, unfolding(crate::specs::Name::attribute_in))]
+fn attribute_in(bytes: &[u8]) -> Option<NamePart<'_>>
+    ensures { option_map seen result ≡ attribute_in bytes.now }
+{
+    let pair = take_whole(bytes, tag::SEQUENCE)?;
+    let (kind, rest) = take_tag(pair.content, tag::OBJECT_IDENTIFIER)?;
+    let (value, rest) = take_any(rest)?;
+    let name = type_name(kind.content)?;
+    if is_text_tag(value.tag) && rest.is_empty() {
+        Some(NamePart {
+            name,
+            value: value.content,
+        })
+    } else {
+        None
+    }
+}
+
 /// The name of an attribute's type, by the contents octets of its object identifier (RFC 4514 section 3).
 fn type_name(oid: &[u8]) -> Option<&'static str>
     ensures { option_map (λ name. name.now) result ≡ type_name oid.now }
@@ -71,62 +129,4 @@ fn is_text_tag(tag: u8) -> bool
     ensures { result ≡ is_text_tag tag }
 {
     tag == tag::UTF8_STRING || tag == PRINTABLE_STRING || tag == IA5_STRING
-}
-
-/// The attribute that the bytes are.
-#[tactic(auto, unfolding(crate::specs::Name::attribute_in))]
-fn attribute_in(bytes: &[u8]) -> Option<NamePart<'_>>
-    ensures { option_map seen result ≡ attribute_in bytes.now }
-{
-    let pair = take_whole(bytes, tag::SEQUENCE)?;
-    let (kind, rest) = take_tag(pair.content, tag::OBJECT_IDENTIFIER)?;
-    let (value, rest) = take_any(rest)?;
-    let name = type_name(kind.content)?;
-    if is_text_tag(value.tag) && rest.is_empty() {
-        Some(NamePart {
-            name,
-            value: value.content,
-        })
-    } else {
-        None
-    }
-}
-
-/// The part at the front of the bytes, and what follows it.
-#[tactic(auto, unfolding(crate::specs::Name::part_at))]
-fn part_at(bytes: &[u8]) -> Option<(NamePart<'_>, &[u8])>
-    ensures { option_map (λ x. (seen x.0, x.1.now)) result ≡ part_at bytes.now }
-{
-    let (set, rest) = take_tag(bytes, tag::SET)?;
-    let attribute = attribute_in(set.content)?;
-    Some((attribute, rest))
-}
-
-/// The parts that the bytes are, one after another. `None` if they are none.
-fn parts_of(alloc: Global, bytes: &[u8]) -> Result<Option<Vec<NamePart<'_>>>, OutOfMemory>
-    ensures { IfOk result (λ found. option_map (λ parts. all_seen parts.items) found ≡ many_at part_at bytes.now) }
-{
-    let mut found = Vec::new(alloc);
-    let mut rest = bytes;
-    'parts: while !rest.is_empty() {
-        let Some((part, after)) = part_at(rest) else {
-            drop(found);
-            return Ok(None);
-        };
-        found.push(part)?;
-        rest = after;
-    }
-    Ok(Some(found))
-}
-
-/// The parts of the name that the bytes are (DER), in order. `None` if they are no name of parts with an attribute each,
-/// of a type that has a name and of a value that is a text. Fails only if out of memory.
-#[tactic(auto, unfolding(crate::specs::Name::parts_in))]
-pub(crate) fn parts_in(alloc: Global, der: &[u8]) -> Result<Option<Vec<NamePart<'_>>>, OutOfMemory>
-    ensures { IfOk result (λ found. option_map (λ parts. all_seen parts.items) found ≡ parts_in der.now) }
-{
-    match take_whole(der, tag::SEQUENCE) {
-        Some(name) => parts_of(alloc, name.content),
-        None => Ok(None),
-    }
 }

@@ -2,4 +2,4 @@ mod Equality
 mod Extras
 mod PayloadTexts
 mod Promises
-mod Nesting
+mod ValueDepths

@@ -10,45 +10,15 @@ use itoa::Buffer;
 use sig_base::TextMap;
 use sig_json::Json;
 
-/// Whether a value is a text, a number or a truth value that is written so.
-#[tactic(auto, unfolding(crate::specs::Annotations::is_said))]
-fn is_said(value: Json<'_, '_>, text: &str) -> bool
-    ensures { result ≡ is_said (tree value.entry) text.now }
-{
-    if let Some(said) = value.text() {
-        return said == text;
+impl Optional {
+    /// Whether the signer's annotations have each of these, with the same value: a text that is the same, or a number
+    /// or a truth value that is written so. False without annotations of the signer, whatever is asked.
+    pub fn satisfies_annotations(&self, annotations: &TextMap) -> bool
+        ensures { result ≡ optional_satisfies (seen_optional self.now) annotations.now }
+    {
+        let extra = self.extra.view();
+        !is_empty(extra) && are_annotated(extra, annotations)
     }
-    if let Some(number) = value.integer() {
-        let mut digits = Buffer::new();
-        return digits.format(number) == text;
-    }
-    match value.boolean() {
-        Some(true) => text == "true",
-        Some(false) => text == "false",
-        None => false,
-    }
-}
-
-/// Whether the member of this name is there and is written so.
-fn is_annotated(extra: Json<'_, '_>, name: &str, text: &str) -> bool
-    ensures { result ≡ is_annotated (tree extra.entry) (name.now, text.now) }
-{
-    match extra.get(name) {
-        Some(value) => is_said(value, text),
-        None => false,
-    }
-}
-
-/// Whether each of the annotations is there.
-fn are_annotated(extra: Json<'_, '_>, annotations: &TextMap) -> bool
-    ensures { result ≡ are_annotated (tree extra.entry) annotations.now }
-{
-    'annotations: for (name, text) in annotations.iter() {
-        if !is_annotated(extra, name, text) {
-            return false;
-        }
-    }
-    true
 }
 
 /// Whether there are no annotations.
@@ -65,14 +35,44 @@ fn is_empty(extra: Json<'_, '_>) -> bool
     }
 }
 
-impl Optional {
-    /// Whether the signer's annotations have each of these, with the same value: a text that is the same, or a number
-    /// or a truth value that is written so. False without annotations of the signer, whatever is asked.
-    pub fn satisfies_annotations(&self, annotations: &TextMap) -> bool
-        ensures { result ≡ optional_satisfies (seen_optional self.now) annotations.now }
-    {
-        let extra = self.extra.view();
-        !is_empty(extra) && are_annotated(extra, annotations)
+/// Whether each of the annotations is there.
+fn are_annotated(extra: Json<'_, '_>, annotations: &TextMap) -> bool
+    ensures { result ≡ are_annotated (tree extra.entry) annotations.now }
+{
+    'annotations: for (name, text) in annotations.iter() {
+        if !is_annotated(extra, name, text) {
+            return false;
+        }
+    }
+    true
+}
+
+/// Whether the member of this name is there and is written so.
+fn is_annotated(extra: Json<'_, '_>, name: &str, text: &str) -> bool
+    ensures { result ≡ is_annotated (tree extra.entry) (name.now, text.now) }
+{
+    match extra.get(name) {
+        Some(value) => is_said(value, text),
+        None => false,
+    }
+}
+
+/// Whether a value is a text, a number or a truth value that is written so.
+#[tactic(auto, unfolding(crate::specs::Annotations::is_said))]
+fn is_said(value: Json<'_, '_>, text: &str) -> bool
+    ensures { result ≡ is_said (tree value.entry) text.now }
+{
+    if let Some(said) = value.text() {
+        return said == text;
+    }
+    if let Some(number) = value.integer() {
+        let mut digits = Buffer::new();
+        return digits.format(number) == text;
+    }
+    match value.boolean() {
+        Some(true) => text == "true",
+        Some(false) => text == "false",
+        None => false,
     }
 }
 

@@ -7,7 +7,7 @@ ghost use Rattle.sig_payload.specs.Bundles.{key_named, payload_text, payload_tre
 
 use crate::bundle::{Bundle, Payload};
 use sig_base::{OutOfMemory, Result, SignatureChecker, SigstoreError, Text, UnexpectedKind};
-use sig_json::Document;
+use sig_json::{Document, Object};
 use sig_json_text::{CanonicalError, canonical};
 use sig_key::{CosignVerificationKey, Signature, VerificationKeys};
 use std::alloc::Global;
@@ -33,20 +33,6 @@ pub(crate) fn check_promise<C: SignatureChecker>(
     key.verify_signature(alloc, signature, text.as_str().as_bytes(), checker)
 }
 
-/// The key of the log of this id. Fails with `RekorPublicKeyNotFoundError` and the id if there is none.
-fn key_named<'k>(
-    alloc: Global,
-    keys: &'k VerificationKeys,
-    id: &Text,
-) -> Result<&'k CosignVerificationKey>
-    ensures { Answers Memory (λ key. key.now) result (key_named keys.now id.now) }
-{
-    match keys.get(id.as_str()) {
-        Some(key) => Ok(key),
-        None => Err(SigstoreError::RekorPublicKeyNotFoundError(id.copy(alloc)?)),
-    }
-}
-
 /// The canonical JSON of a payload.
 fn payload_text(alloc: Global, payload: &Payload) -> Result<Text>
     ensures { Answers Memory (λ text. text) result (payload_text payload.now) }
@@ -66,22 +52,24 @@ fn payload_text(alloc: Global, payload: &Payload) -> Result<Text>
 fn payload_object(alloc: Global, payload: &Payload) -> std::result::Result<Document, OutOfMemory>
     ensures { IfOk result (λ document. document_tree document ≡ payload_tree payload.now) }
 {
-    let mut object = Document::object(alloc);
-    object.insert(
-        alloc,
-        "body",
-        Document::of_text(alloc, payload.body.as_str())?,
-    )?;
-    object.insert(
-        alloc,
-        "integratedTime",
-        Document::of_integer(payload.integrated_time),
-    )?;
-    object.insert(
-        alloc,
-        "logID",
-        Document::of_text(alloc, payload.log_id.as_str())?,
-    )?;
-    object.insert(alloc, "logIndex", Document::of_integer(payload.log_index))?;
-    Ok(object)
+    let object = Object::new(alloc)
+        .with_text(alloc, "body", payload.body.as_str())?
+        .with_number(alloc, "integratedTime", payload.integrated_time)?
+        .with_text(alloc, "logID", payload.log_id.as_str())?
+        .with_number(alloc, "logIndex", payload.log_index)?;
+    Ok(object.into_document())
+}
+
+/// The key of the log of this id. Fails with `RekorPublicKeyNotFoundError` and the id if there is none.
+fn key_named<'k>(
+    alloc: Global,
+    keys: &'k VerificationKeys,
+    id: &Text,
+) -> Result<&'k CosignVerificationKey>
+    ensures { Answers Memory (λ key. key.now) result (key_named keys.now id.now) }
+{
+    match keys.get(id.as_str()) {
+        Some(key) => Ok(key),
+        None => Err(SigstoreError::RekorPublicKeyNotFoundError(id.copy(alloc)?)),
+    }
 }

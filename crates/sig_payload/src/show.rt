@@ -42,6 +42,32 @@ impl fmt::Display for SimpleSigning {
     }
 }
 
+/// A text in quotation marks, with the escapes of JSON (RFC 8259 section 7).
+fn write_quoted<W: fmt::Write>(f: &mut fmt::Formatter<W>, text: &str) -> fmt::Result {
+    f.write_str("\"")?;
+    for c in text.chars() {
+        write_escaped(f, c)?;
+    }
+    f.write_str("\"")
+}
+
+fn write_escaped<W: fmt::Write>(f: &mut fmt::Formatter<W>, c: char) -> fmt::Result {
+    match c {
+        '"' => f.write_str("\\\""),
+        '\\' => f.write_str("\\\\"),
+        '\u{8}' => f.write_str("\\b"),
+        '\u{c}' => f.write_str("\\f"),
+        '\n' => f.write_str("\\n"),
+        '\r' => f.write_str("\\r"),
+        '\t' => f.write_str("\\t"),
+        '\0'..='\u{1f}' => {
+            let code = u32::from(c);
+            write!(f, "\\u{code:04x}")
+        }
+        _ => f.write_char(c),
+    }
+}
+
 /// How far the members of `optional` are indented, in steps of two spaces.
 const OPTIONAL_LEVEL: usize = 2;
 
@@ -93,9 +119,31 @@ fn is_before(name: &str, to: Option<&str>) -> bool {
     }
 }
 
+/// Begins a line of a member: its name.
+fn write_name<W: fmt::Write>(
+    f: &mut fmt::Formatter<W>,
+    before: char,
+    level: usize,
+    name: &str,
+) -> fmt::Result {
+    write_start(f, before, level)?;
+    write_quoted(f, name)?;
+    f.write_str(": ")
+}
+
+/// Begins a line, after the bracket or comma before it.
+fn write_start<W: fmt::Write>(
+    f: &mut fmt::Formatter<W>,
+    before: char,
+    level: usize,
+) -> fmt::Result {
+    f.write_char(before)?;
+    write_line(f, level)
+}
+
 /// Writes a value whose members or elements are one step deeper than `level`.
 #[cycle(show)]
-#[tactic(auto, using(crate::proofs::Nesting::nesting))]
+#[tactic(auto, using(crate::proofs::ValueDepths::nesting))]
 fn write_value<W: fmt::Write>(
     f: &mut fmt::Formatter<W>,
     value: Json<'_, '_>,
@@ -111,7 +159,7 @@ fn write_value<W: fmt::Write>(
 }
 
 #[cycle(show)]
-#[tactic(auto, using(crate::proofs::Nesting::nesting))]
+#[tactic(auto, using(crate::proofs::ValueDepths::nesting))]
 fn write_members<W: fmt::Write>(
     f: &mut fmt::Formatter<W>,
     members: Members<'_, '_>,
@@ -127,7 +175,7 @@ fn write_members<W: fmt::Write>(
 }
 
 #[cycle(show)]
-#[tactic(auto, using(crate::proofs::Nesting::nesting))]
+#[tactic(auto, using(crate::proofs::ValueDepths::nesting))]
 fn write_list<W: fmt::Write>(
     f: &mut fmt::Formatter<W>,
     list: Json<'_, '_>,
@@ -159,28 +207,6 @@ fn write_scalar<W: fmt::Write>(f: &mut fmt::Formatter<W>, value: Json<'_, '_>) -
     }
 }
 
-/// Begins a line of a member: its name.
-fn write_name<W: fmt::Write>(
-    f: &mut fmt::Formatter<W>,
-    before: char,
-    level: usize,
-    name: &str,
-) -> fmt::Result {
-    write_start(f, before, level)?;
-    write_quoted(f, name)?;
-    f.write_str(": ")
-}
-
-/// Begins a line, after the bracket or comma before it.
-fn write_start<W: fmt::Write>(
-    f: &mut fmt::Formatter<W>,
-    before: char,
-    level: usize,
-) -> fmt::Result {
-    f.write_char(before)?;
-    write_line(f, level)
-}
-
 /// Ends a list or an object. If nothing is in it, it stands on its line, as `{}`.
 fn write_end<W: fmt::Write>(
     f: &mut fmt::Formatter<W>,
@@ -202,30 +228,4 @@ fn write_line<W: fmt::Write>(f: &mut fmt::Formatter<W>, level: usize) -> fmt::Re
         f.write_str("  ")?;
     }
     Ok(())
-}
-
-/// A text in quotation marks, with the escapes of JSON (RFC 8259 section 7).
-fn write_quoted<W: fmt::Write>(f: &mut fmt::Formatter<W>, text: &str) -> fmt::Result {
-    f.write_str("\"")?;
-    for c in text.chars() {
-        write_escaped(f, c)?;
-    }
-    f.write_str("\"")
-}
-
-fn write_escaped<W: fmt::Write>(f: &mut fmt::Formatter<W>, c: char) -> fmt::Result {
-    match c {
-        '"' => f.write_str("\\\""),
-        '\\' => f.write_str("\\\\"),
-        '\u{8}' => f.write_str("\\b"),
-        '\u{c}' => f.write_str("\\f"),
-        '\n' => f.write_str("\\n"),
-        '\r' => f.write_str("\\r"),
-        '\t' => f.write_str("\\t"),
-        '\0'..='\u{1f}' => {
-            let code = u32::from(c);
-            write!(f, "\\u{code:04x}")
-        }
-        _ => f.write_char(c),
-    }
 }

@@ -71,6 +71,61 @@ impl ElementReader for CriticalReader {
     }
 }
 
+/// Returns the payload that the bytes of a layer are. Fails with `UnexpectedError` of `LayerUnreadable` if and only if they are
+/// no JSON document without floats, or a member is not as it has to be: `critical` an object of the objects `identity`,
+/// with the text `docker-reference`, and `image`, with the text `docker-manifest-digest`, and of the text `type`;
+/// `optional` an object or absent, in it `creator` a text and `timestamp` a number from -2^63 to 2^63 - 1, or absent.
+/// Null means absent; other members are annotations in `optional`, and are ignored elsewhere.
+#[tactic(auto, unfolding(crate::specs::Signing::signing_of))]
+pub fn read_signing(alloc: Global, bytes: &[u8]) -> sig_base::Result<SimpleSigning>
+    ensures { Answers Memory seen_signing result (ok_or (signing_of bytes.now) (UnexpectedError LayerUnreadable)) }
+{
+    match read_payload(alloc, bytes) {
+        Ok(signing) => Ok(signing),
+        Err(JsonError::NotJson | JsonError::Float | JsonError::Member) => Err(
+            SigstoreError::UnexpectedError(UnexpectedKind::LayerUnreadable),
+        ),
+        Err(JsonError::OutOfMemory) => Err(SigstoreError::OutOfMemory),
+    }
+}
+
+/// The payload that the bytes are.
+#[tactic(auto, unfolding(sig_json::specs::Record::record_in))]
+fn read_payload(alloc: Global, bytes: &[u8]) -> Result<SimpleSigning, JsonError>
+    ensures { Answers JsonError.OutOfMemory seen_signing result (record_in signing_in bytes.now) }
+{
+    let mut scratch = Scratch::new(alloc);
+    let payload = BorrowedDocument::read(alloc, bytes, &mut scratch)?;
+    Ok(read_document(alloc, payload)?)
+}
+
+/// The payload that a document is.
+#[tactic(auto, using(crate::proofs::Extras::read_of_object), unfolding(crate::specs::Signing::signing_in))]
+fn read_document(alloc: Global, payload: BorrowedDocument<'_>) -> Result<SimpleSigning, MemberError>
+    ensures { Answers MemberError.OutOfMemory seen_signing result
+        (or_member (signing_in (borrowed_tree payload.entry))) }
+{
+    let critical = required::<CriticalReader>(alloc, payload.view(), "critical")?;
+    let optional = take_optional(alloc, payload)?;
+    Ok(SimpleSigning { critical, optional })
+}
+
+/// The same of a payload that is an object. It is moved out of the payload.
+#[tactic(auto, using(crate::proofs::Extras::moved))]
+fn take_optional(
+    alloc: Global,
+    payload: BorrowedDocument<'_>,
+) -> Result<Option<Optional>, MemberError>
+    requires { IsSome (as_object (borrowed_tree payload)) }
+    ensures { Answers MemberError.OutOfMemory (option_map seen_optional) result
+        (or_member (optional_in_payload (borrowed_tree payload.entry))) }
+{
+    match payload.into_member("optional") {
+        Some(beside) => read_optional(alloc, beside),
+        None => Ok(None),
+    }
+}
+
 /// What a signer says beside the image. Null is the same as absent.
 #[tactic(auto, unfolding(crate::specs::Signing::optional_in))]
 fn read_optional(
@@ -92,59 +147,4 @@ fn read_optional(
         timestamp,
         extra,
     }))
-}
-
-/// The same of a payload that is an object. It is moved out of the payload.
-#[tactic(auto, using(crate::proofs::Extras::moved))]
-fn take_optional(
-    alloc: Global,
-    payload: BorrowedDocument<'_>,
-) -> Result<Option<Optional>, MemberError>
-    requires { IsSome (as_object (borrowed_tree payload)) }
-    ensures { Answers MemberError.OutOfMemory (option_map seen_optional) result
-        (or_member (optional_in_payload (borrowed_tree payload.entry))) }
-{
-    match payload.into_member("optional") {
-        Some(beside) => read_optional(alloc, beside),
-        None => Ok(None),
-    }
-}
-
-/// The payload that a document is.
-#[tactic(auto, using(crate::proofs::Extras::read_of_object), unfolding(crate::specs::Signing::signing_in))]
-fn read_document(alloc: Global, payload: BorrowedDocument<'_>) -> Result<SimpleSigning, MemberError>
-    ensures { Answers MemberError.OutOfMemory seen_signing result
-        (or_member (signing_in (borrowed_tree payload.entry))) }
-{
-    let critical = required::<CriticalReader>(alloc, payload.view(), "critical")?;
-    let optional = take_optional(alloc, payload)?;
-    Ok(SimpleSigning { critical, optional })
-}
-
-/// The payload that the bytes are.
-#[tactic(auto, unfolding(sig_json::specs::Record::record_in))]
-fn read_payload(alloc: Global, bytes: &[u8]) -> Result<SimpleSigning, JsonError>
-    ensures { Answers JsonError.OutOfMemory seen_signing result (record_in signing_in bytes.now) }
-{
-    let mut scratch = Scratch::new(alloc);
-    let payload = BorrowedDocument::read(alloc, bytes, &mut scratch)?;
-    Ok(read_document(alloc, payload)?)
-}
-
-/// Returns the payload that the bytes of a layer are. Fails with `UnexpectedError` of `LayerUnreadable` if and only if they are
-/// no JSON document without floats, or a member is not as it has to be: `critical` an object of the objects `identity`,
-/// with the text `docker-reference`, and `image`, with the text `docker-manifest-digest`, and of the text `type`;
-/// `optional` an object or absent, in it `creator` a text and `timestamp` a number from -2^63 to 2^63 - 1, or absent.
-/// Null means absent; other members are annotations in `optional`, and are ignored elsewhere.
-#[tactic(auto, unfolding(crate::specs::Signing::signing_of))]
-pub fn read_signing(alloc: Global, bytes: &[u8]) -> sig_base::Result<SimpleSigning>
-    ensures { Answers Memory seen_signing result (ok_or (signing_of bytes.now) (UnexpectedError LayerUnreadable)) }
-{
-    match read_payload(alloc, bytes) {
-        Ok(signing) => Ok(signing),
-        Err(JsonError::NotJson | JsonError::Float | JsonError::Member) => Err(
-            SigstoreError::UnexpectedError(UnexpectedKind::LayerUnreadable),
-        ),
-        Err(JsonError::OutOfMemory) => Err(SigstoreError::OutOfMemory),
-    }
 }

@@ -10,8 +10,9 @@ use Rattle.sig_certificate.specs.Lookups.{with_oid}
 use Rattle.sig_certificate.specs.Names.{Name, general_names_of}
 use Rattle.sig_der.specs.ObjectIdentifiers.{fulcio, subject_alternative_name}
 use Rattle.sig_policy.specs.Claim.{Claim}
-use Rattle.sig_policy.specs.Held.{HasText, HasIdentities, HasIdentity, WhyNot, no_issuer, other_issuer, no_names}
-use Rattle.sig_policy.specs.Held.{other_names, refusal_for}
+use Rattle.sig_policy.specs.CertificateWords.{HasText, HasIdentities, HasIdentity, WhyNot, no_issuer, other_issuer}
+use Rattle.sig_policy.specs.CertificateWords.{no_names}
+use Rattle.sig_policy.specs.CertificateWords.{other_names, refusal_for}
 use Rattle.sig_policy.specs.Identities.{identity_of, only_identities, identities, is_among_identities}
 use Rattle.sig_policy.specs.Identities.{name_refusal, is_issued_by, identity_holds, identity_refusal}
 use Rattle.sig_policy.specs.Refusals.{Refusal, not_found}

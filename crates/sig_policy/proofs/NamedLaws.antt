@@ -10,7 +10,7 @@ use Rattle.sig_certificate.specs.Certificate.{Cert}
 use Rattle.sig_certificate.specs.Names.{Name, Email, Uri, Other, Unread}
 use Rattle.sig_der.specs.ObjectIdentifiers.{fulcio}
 use Rattle.sig_policy.specs.Claim.{Claim}
-use Rattle.sig_policy.specs.Held.{GivesIdentity, HasText, HasIdentity, IsNamed}
+use Rattle.sig_policy.specs.CertificateWords.{GivesIdentity, HasText, HasIdentity, IsNamed}
 use Rattle.sig_policy.specs.Identities.{identity_of, identity_holds}
 use Rattle.sig_policy.specs.Single.{is_asked_text}
 use Rattle.sig_policy.specs.Texts.{utf8_text}

@@ -6,8 +6,8 @@ use Rattle.std.proofs.lemmas.List.Folds.{Any-from_list_any, list_any-from_Any}
 use Rattle.std.proofs.lemmas.List.Sums.{AllPass-from_list_all, list_all-from_AllPass}
 use Rattle.sig_certificate.specs.Certificate.{Cert}
 use Rattle.sig_der.specs.ObjectIdentifiers.{fulcio}
-use Rattle.sig_policy.specs.Held.{HasText}
-use Rattle.sig_policy.specs.Met.{IsMet, IsMetBy}
+use Rattle.sig_policy.specs.CertificateWords.{HasText}
+use Rattle.sig_policy.specs.MetRule.{IsMet, IsMetBy}
 use Rattle.sig_policy.specs.Requests.{leaf_holds, request_holds}
 use Rattle.sig_policy.specs.Single.{extension_text, is_asked_text}
 use Rattle.sig_policy.specs.declared.request.LeafPolicy.{LeafPolicy}

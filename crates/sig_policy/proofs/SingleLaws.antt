@@ -9,7 +9,7 @@ use Rattle.sig_base.proofs.OptionSteps.{some_is}
 use Rattle.sig_base.specs.Answers.{ComesWhere}
 use Rattle.sig_certificate.specs.Certificate.{Extension, Cert}
 use Rattle.sig_certificate.specs.Lookups.{with_oid}
-use Rattle.sig_policy.specs.Held.{HasText}
+use Rattle.sig_policy.specs.CertificateWords.{HasText}
 use Rattle.sig_policy.specs.Refusals.{not_found, check_failed}
 use Rattle.sig_policy.specs.Single.{only_text, extension_text, is_asked_text, single_refusal}
 use Rattle.sig_policy.specs.Texts.{utf8_text}

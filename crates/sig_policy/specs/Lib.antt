@@ -7,6 +7,6 @@ pub mod Claim
 pub mod Identities
 pub mod IdentitySet
 pub mod Said
-pub mod Held
+pub mod CertificateWords
 pub mod Requests
-pub mod Met
+pub mod MetRule

@@ -11,21 +11,14 @@ use sig_certificate::{AlternativeNames, GeneralName, alternative_names};
 use sig_der::oid;
 use std::alloc::Global;
 
-/// Returns the identity that the name gives, if it gives one.
-fn identity_of(name: GeneralName<'_>) -> Option<&str>
-    ensures { option_map (λ t. t.now) result ≡ identity_of (borrowed_name name.entry) }
+/// Returns the identities that a subject alternative name of this value gives, in order. `None` if it is malformed.
+/// Fails only if out of memory.
+pub(crate) fn identities_of(alloc: Global, value: &[u8]) -> Result<Option<Vec<&str>>, OutOfMemory>
+    ensures { IfOk result (λ o. option_map (λ v. map (λ t. t.now) v.items) o ≡ identities_of value.now) }
 {
-    match name {
-        GeneralName::Email(text) => utf8_text(text),
-        GeneralName::Uri(text) => utf8_text(text),
-        GeneralName::Other(kind, value) => {
-            if kind == oid::FULCIO_OTHER_NAME {
-                utf8_text(value)
-            } else {
-                None
-            }
-        }
-        GeneralName::Unread => None,
+    match alternative_names(value) {
+        None => Ok(None),
+        Some(names) => Ok(Some(given(alloc, names)?)),
     }
 }
 
@@ -42,13 +35,20 @@ fn given(alloc: Global, names: AlternativeNames<'_>) -> Result<Vec<&str>, OutOfM
     Ok(found)
 }
 
-/// Returns the identities that a subject alternative name of this value gives, in order. `None` if it is malformed.
-/// Fails only if out of memory.
-pub(crate) fn identities_of(alloc: Global, value: &[u8]) -> Result<Option<Vec<&str>>, OutOfMemory>
-    ensures { IfOk result (λ o. option_map (λ v. map (λ t. t.now) v.items) o ≡ identities_of value.now) }
+/// Returns the identity that the name gives, if it gives one.
+fn identity_of(name: GeneralName<'_>) -> Option<&str>
+    ensures { option_map (λ t. t.now) result ≡ identity_of (borrowed_name name.entry) }
 {
-    match alternative_names(value) {
-        None => Ok(None),
-        Some(names) => Ok(Some(given(alloc, names)?)),
+    match name {
+        GeneralName::Email(text) => utf8_text(text),
+        GeneralName::Uri(text) => utf8_text(text),
+        GeneralName::Other(kind, value) => {
+            if kind == oid::FULCIO_OTHER_NAME {
+                utf8_text(value)
+            } else {
+                None
+            }
+        }
+        GeneralName::Unread => None,
     }
 }

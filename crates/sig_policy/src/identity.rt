@@ -43,7 +43,6 @@ impl Identity {
         Ok(Identity { identity, issuer })
     }
 
-    /// Returns the identity.
     pub(crate) fn identity(&self) -> &str
         ensures { result.now ≡ self.now.identity }
     {
@@ -86,6 +85,20 @@ fn verify_name(alloc: Global, identity: &str, cert: &Certificate) -> PolicyResul
     judge_name(alloc, identity, &texts)
 }
 
+/// Returns the identities that the certificate names. `None` if it has not exactly one well-formed subject alternative
+/// name. Fails only if out of memory.
+pub(crate) fn identities(
+    alloc: Global,
+    cert: &Certificate,
+) -> Result<Option<Vec<&str>>, OutOfMemory>
+    ensures { IfOk result (λ o. option_map (λ v. map (λ t. t.now) v.items) o ≡ identities cert.now) }
+{
+    match cert.extension(oid::SUBJECT_ALTERNATIVE_NAME) {
+        Lookup::One(extension) => identities_of(alloc, extension.value),
+        _ => Ok(None),
+    }
+}
+
 /// Returns what the policy returns, if its issuer is the certificate's and the certificate names these identities.
 pub(crate) fn judge_name(alloc: Global, identity: &str, texts: &Option<Vec<&str>>) -> PolicyResult
     ensures { IsPolicyResult
@@ -126,18 +139,4 @@ fn joined(alloc: Global, texts: &[&str]) -> Result<Text, OutOfMemory>
 {
     let joined = texts.join(alloc, ", ")?;
     Ok(Text::from(joined))
-}
-
-/// Returns the identities that the certificate names. `None` if it has not exactly one well-formed subject alternative
-/// name. Fails only if out of memory.
-pub(crate) fn identities(
-    alloc: Global,
-    cert: &Certificate,
-) -> Result<Option<Vec<&str>>, OutOfMemory>
-    ensures { IfOk result (λ o. option_map (λ v. map (λ t. t.now) v.items) o ≡ identities cert.now) }
-{
-    match cert.extension(oid::SUBJECT_ALTERNATIVE_NAME) {
-        Lookup::One(extension) => identities_of(alloc, extension.value),
-        _ => Ok(None),
-    }
 }

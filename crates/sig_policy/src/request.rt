@@ -44,7 +44,7 @@ pub enum LeafPolicy {
 /// Policies in order.
 pub type LeafPolicies = OwnedList<LeafPolicy>;
 
-/// The policy of a request.
+/// What a request asks of the signing certificate.
 #[derive(Drop)]
 pub enum RequestPolicy {
     /// Each policy of the list has to hold.
@@ -140,20 +140,21 @@ fn any_holds<P, S: PolicySubject<P>>(
     Ok(false)
 }
 
-/// Returns `None` if the policy holds, else its refusal. Fails only if out of memory.
-fn refused<P, S: PolicySubject<P>>(
+pub(crate) fn verify_all<P, S: PolicySubject<P>>(
     alloc: Global,
-    policy: &P,
+    policies: &[P],
     subject: &S,
-) -> Result<Option<PolicyError>, OutOfMemory>
-    ensures { IfOk result (IsRefusalOf
-        (refused (λ p. S.holds subject.now p) (λ p. S.refusal subject.now p) policy.now)) }
+) -> PolicyResult
+    ensures { IsPolicyResult
+        (list_all (λ p. S.holds subject.now p) policies.now)
+        (all_refusal (λ p. S.holds subject.now p) (λ p. S.refusal subject.now p) policies.now)
+        result }
 {
-    match subject.judge(alloc, policy) {
-        Ok(()) => Ok(None),
-        Err(PolicyError::OutOfMemory) => Err(OutOfMemory),
-        Err(error) => Ok(Some(error)),
+    let errors = refusals(alloc, policies, subject)?;
+    if errors.len() == 0 {
+        return Ok(());
     }
+    Err(all_of(policies.len(), errors))
 }
 
 /// Returns the refusals of the policies that do not hold, in order. Fails only if out of memory.
@@ -175,21 +176,20 @@ fn refusals<P, S: PolicySubject<P>>(
     Ok(errors)
 }
 
-pub(crate) fn verify_all<P, S: PolicySubject<P>>(
+/// Returns `None` if the policy holds, else its refusal. Fails only if out of memory.
+fn refused<P, S: PolicySubject<P>>(
     alloc: Global,
-    policies: &[P],
+    policy: &P,
     subject: &S,
-) -> PolicyResult
-    ensures { IsPolicyResult
-        (list_all (λ p. S.holds subject.now p) policies.now)
-        (all_refusal (λ p. S.holds subject.now p) (λ p. S.refusal subject.now p) policies.now)
-        result }
+) -> Result<Option<PolicyError>, OutOfMemory>
+    ensures { IfOk result (IsRefusalOf
+        (refused (λ p. S.holds subject.now p) (λ p. S.refusal subject.now p) policy.now)) }
 {
-    let errors = refusals(alloc, policies, subject)?;
-    if errors.len() == 0 {
-        return Ok(());
+    match subject.judge(alloc, policy) {
+        Ok(()) => Ok(None),
+        Err(PolicyError::OutOfMemory) => Err(OutOfMemory),
+        Err(error) => Ok(Some(error)),
     }
-    Err(all_of(policies.len(), errors))
 }
 
 pub(crate) fn verify_any<P, S: PolicySubject<P>>(

@@ -4,7 +4,7 @@ ghost use Rattle.std.specs.Prelude.{◌≡◌, ◌≢◌, ℕ, List, Ok, Err, If
 ghost use Rattle.sig_base.specs.Answers.{ComesWhere};
 ghost use Rattle.sig_certificate.specs.Certificate.{Cert};
 ghost use Rattle.sig_policy.specs.Single.{extension_text, is_asked_text, single_refusal};
-ghost use Rattle.sig_policy.specs.Held.{HasText};
+ghost use Rattle.sig_policy.specs.CertificateWords.{HasText};
 ghost use Rattle.sig_policy.specs.Refusals.{IsRefusal, check_failed};
 ghost use Rattle.sig_policy.specs.Verdict.{IsPolicyResult};
 
@@ -39,17 +39,6 @@ pub trait SingleX509ExtPolicy {
     /// Returns the contents octets of the extension's object identifier.
     fn oid() -> &'static [u8]
         ensures { result.now ≡ identifier };
-}
-
-/// Returns the text of the only extension with this object identifier. `None` if there is none, if there are several,
-/// and if its value is not UTF-8.
-pub(crate) fn extension_text<'a>(cert: &'a Certificate, oid: &[u8]) -> Option<&'a str>
-    ensures { option_map (λ t. t.now) result ≡ extension_text oid.now cert.now }
-{
-    match cert.extension(oid) {
-        Lookup::One(extension) => utf8_text(extension.value),
-        _ => None,
-    }
 }
 
 /// Whether the certificate has exactly one extension of the policy's object identifier, and its value is UTF-8 and the
@@ -136,6 +125,17 @@ pub(crate) fn check_failed(
         expected: Text::copy_of(alloc, expected)?,
         actual: Text::copy_of(alloc, actual)?,
     })
+}
+
+/// Returns the text of the only extension with this object identifier. `None` if there is none, if there are several,
+/// and if its value is not UTF-8.
+pub(crate) fn extension_text<'a>(cert: &'a Certificate, oid: &[u8]) -> Option<&'a str>
+    ensures { option_map (λ t. t.now) result ≡ extension_text oid.now cert.now }
+{
+    match cert.extension(oid) {
+        Lookup::One(extension) => utf8_text(extension.value),
+        _ => None,
+    }
 }
 
 impl<T: SingleX509ExtPolicy + Drop> VerificationPolicy for T {

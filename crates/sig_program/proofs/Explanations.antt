@@ -5,7 +5,7 @@ use Rattle.std.proofs.lemmas.Bool.{lt-ltb}
 use Rattle.sig_base.specs.declared.memory.OutOfMemory.{OutOfMemory}
 use Rattle.sig_explain_log.specs.Request.{request_tree}
 use Rattle.sig_json.specs.Data.{Data}
-use Rattle.sig_program.specs.Explained.{explained_command}
+use Rattle.sig_program.specs.ExplainWords.{explained_command}
 use Rattle.sig_program.specs.ExplainedReply.{IsExplained, explained_by}
 use Rattle.sig_program.specs.Explanation.{IsExplanation, IsFaultTree}
 use Rattle.sig_program.specs.Reply.{IsReply, refusal_reply}
@@ -26,7 +26,7 @@ explained-replied what text plain tree (Ok reply) replies explains are =
     record { plain = plain; replies = replies; tree = tree; explains = explains; are = are }
 explained-replied what text plain tree (Err memory) replies explains are = tt
 
--- what is wrong with a text that is no request of a table
+-- what is wrong with a text that is not a request of a table
 pub its-fault : (table : Table) (text : List ℕ) (found : Option RequestFault) (fault : RequestFault)
     → found ≡ request_fault_in table text → found ≡ Some fault → IsFaultTree table text (request_tree fault)
 its-fault table text found fault is some = (fault, sym is ∙ some, refl)

@@ -7,7 +7,7 @@ use Rattle.sig_program.specs.GivenBack.{ListsAreGivenBack}
 use Rattle.sig_program.specs.Link.{EveryLinkHolds}
 use Rattle.sig_program.specs.Reply.{IsReplyByLinks}
 use Rattle.sig_reply.specs.Reply.{listed}
-use Rattle.sig_reply.proofs.Fitting.{wherever_put}
+use Rattle.sig_reply.proofs.FittingLists.{wherever_put}
 use Rattle.sig_reply.specs.RowsText.{FitsBeside}
 use Rattle.sig_program.specs.VerifyQuestions.{HoldsOfVerifyQuestions, HoldsVerifyQuestions}
 use Rattle.sig_program.specs.declared.command.Command.{Command}

@@ -5,7 +5,7 @@ use Rattle.std.proofs.lemmas.Fmt.{decimal_injective, parse-decimal}
 use Rattle.std.specs.Fmt.{decimal}
 use Rattle.std.specs.Str.Parse.{ParsesUnsigned}
 use Rattle.sig_program.specs.Command.{IsCommand, Names, words_of}
-use Rattle.sig_program.specs.Explained.{IsExplain, NamesExplained, explained_command}
+use Rattle.sig_program.specs.ExplainWords.{IsExplain, NamesExplained, explained_command}
 use Rattle.sig_program.specs.Invocation.{IsCountWord, IsDemo, IsDemoCount, IsInvocation, IsNeither, Invokes}
 use Rattle.sig_program.specs.declared.explained.Explained.{Explained}
 use Rattle.sig_program.specs.declared.explained.Explained.TheVariants as explained

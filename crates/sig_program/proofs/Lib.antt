@@ -11,13 +11,13 @@ pub mod HeadVerdicts
 pub mod Explanations
 pub mod DemoLines
 pub mod DemoLinks
-pub mod Included
+pub mod IncludedEntries
 pub mod Invocations
 pub mod LogReplies
 pub mod LogVerdicts
-pub mod Logged
+pub mod ProofPaths
 pub mod LongTexts
-pub mod Naming
+pub mod CommandNames
 pub mod NoteRows
 pub mod OneExplanation
 pub mod OneOutcome
@@ -31,4 +31,4 @@ pub mod VerifyChains
 pub mod VerifyQuestionReplies
 pub mod VerifyReplies
 pub mod VerifyRowsSuffice
-pub mod Writing
+pub mod SinkWrites

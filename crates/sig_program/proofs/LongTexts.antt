@@ -10,7 +10,7 @@ use Rattle.sig_gate_command.proofs.QuestionReplies.{long-questions}
 use Rattle.sig_gate_command.proofs.Replies.{long-gate}
 use Rattle.sig_program.proofs.Explanations.{long-fault}
 use Rattle.sig_program.proofs.Replies.{long-reply}
-use Rattle.sig_program.specs.Explained.{explained_command}
+use Rattle.sig_program.specs.ExplainWords.{explained_command}
 use Rattle.sig_program.specs.ExplainedReply.{IsExplained, long_explained}
 use Rattle.sig_program.specs.Explanation.{IsExplanation}
 use Rattle.sig_program.specs.Reply.{IsReply, refusal_reply}

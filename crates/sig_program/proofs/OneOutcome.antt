@@ -1,11 +1,11 @@
 -- A text has one explanation by `verify`, `audit`, `witness` and `gate`.
 use Rattle.std.proofs.Common.{◌≡◌, ◌⊎◌, ℕ, List, Ok, Err, inl, inr}
 use Rattle.sig_explain_audit.proofs.OneTree.{one_tree as one_of_audit_request}
-use Rattle.sig_explain_audit.specs.Explained.{IsRequestTree as IsAuditRequestTree}
+use Rattle.sig_explain_audit.specs.AuditExplanation.{IsRequestTree as IsAuditRequestTree}
 use Rattle.sig_explain_gate.specs.OneTree.{TextsHaveOneTree}
 use Rattle.sig_explain_verify.specs.OneTree.{IsOfLinks, IsResultTree, IsShownResult, ResultsHaveOneTree}
 use Rattle.sig_explain_witness.proofs.OneTree.{one_tree as one_of_witness_request}
-use Rattle.sig_explain_witness.specs.Explained.{IsRequestTree as IsWitnessRequestTree}
+use Rattle.sig_explain_witness.specs.WitnessExplanation.{IsRequestTree as IsWitnessRequestTree}
 use Rattle.sig_json.specs.Data.{Data}
 use Rattle.sig_program.proofs.OneExplanation.{IsOfRequest, one_of_text}
 use Rattle.sig_program.specs.Explanation.{HasOneExplanation, IsChainTree, IsFaultTree, IsOutcome, IsOutcomeTree}

@@ -12,7 +12,7 @@ use Rattle.sig_base.specs.Base64.{base64_text}
 use Rattle.sig_base.specs.declared.checker.AcceptedRow.{AcceptedRow}
 use Rattle.sig_base.specs.declared.checker.Operation.{Operation}
 use Rattle.sig_base.specs.declared.checker.Operation.TheVariants.{Message, Prehash, Point, Certificate}
-use Rattle.sig_bundle.specs.Written.{bytes_tree, members_into}
+use Rattle.sig_json.specs.Writing.{bytes_tree, members_into}
 use Rattle.sig_json.specs.Data.{Members, member, no_members}
 use Rattle.sig_json.specs.Written.{comma_if, compact_text, members_text}
 use Rattle.sig_questions.specs.Rows.{HasScheme, IsSchemeUnder, bytes_of_rows, row_bytes}

@@ -17,9 +17,9 @@ use Rattle.sig_request.specs.Limit.{TakesUpTo}
 use Rattle.std.specs.Io.KnownBytes.{Appends}
 use Rattle.sig_program.proofs.Invocations.{demo-asked}
 use Rattle.sig_program.proofs.LongTexts.{long-explained, long-meant}
-use Rattle.sig_program.proofs.Naming.{IsCommand-many, IsCommand-none, are_two_words, is_one_word}
+use Rattle.sig_program.proofs.CommandNames.{IsCommand-many, IsCommand-none, are_two_words, is_one_word}
 use Rattle.sig_program.specs.Demo.{demo_reply, demo_text}
-use Rattle.sig_program.specs.Explained.{explained_command}
+use Rattle.sig_program.specs.ExplainWords.{explained_command}
 use Rattle.sig_program.specs.ExplainedReply.{IsExplained, long_explained}
 use Rattle.sig_program.specs.Invocation.{Invokes, IsDemo, IsInvocation}
 use Rattle.sig_program.specs.declared.explained.Explained.{Explained}

@@ -13,7 +13,7 @@ use Rattle.sig_merkle.specs.Inclusion.{IsIncluded}
 use Rattle.sig_merkle.specs.Root.{leaf_of, root}
 use Rattle.sig_rekor.specs.declared.inclusion_proof.InclusionProof.{InclusionProof}
 use Rattle.sig_verify.proofs.EntryPaths.{pos_same}
-use Rattle.sig_program.proofs.Logged.{included-at, logged-negative}
+use Rattle.sig_program.proofs.ProofPaths.{included-at, logged-negative}
 use Rattle.sig_program.specs.ProofOf.{IsProofOf}
 use Rattle.sig_program.specs.SecondLine.{AreOfProof, IsEntryAt, IsLineOf, entry_line}
 use Rattle.sig_reply.specs.SecondLine.{collision_line, other_line}

@@ -13,7 +13,7 @@ use Rattle.sig_verify.specs.declared.logged_entry.LoggedEntry.{LoggedEntry}
 use Rattle.sig_verify.specs.declared.offline_error.OfflineError.{OfflineError}
 use Rattle.sig_verify.specs.declared.offline_error.OfflineError.TheVariants.{OutOfMemory as Memory}
 use Rattle.std.proofs.lemmas.Result.{IfOk-weaker}
-use Rattle.sig_program.proofs.Included.{every-included}
+use Rattle.sig_program.proofs.IncludedEntries.{every-included}
 use Rattle.sig_program.proofs.Replies.{every-of_text, every-reply, first-of_text, first-reply, replied}
 use Rattle.sig_request.proofs.RequestTexts.{one_request}
 use Rattle.sig_program.specs.Reply.{IsEntryIn, IsReply, IsVerifiedReply, refusal_reply}

@@ -1,9 +1,9 @@
--- The reply of `explain`: that of the command, and behind it one line, its explanation.
+-- The reply of `explain`: that of the command, and after it one line, its explanation.
 use Rattle.std.specs.Prelude.{◌≡◌, ℕ, List, ◌++◌, codes}
 use Rattle.sig_explain_log.specs.Request.{request_tree}
 use Rattle.sig_json.specs.Data.{Data}
 use Rattle.sig_json.specs.Written.{compact_text}
-use Rattle.sig_program.specs.Explained.{explained_command}
+use Rattle.sig_program.specs.ExplainWords.{explained_command}
 use Rattle.sig_program.specs.Explanation.{IsExplanation}
 use Rattle.sig_program.specs.Reply.{IsReply, refusal_reply}
 use Rattle.sig_program.specs.declared.explained.Explained.{Explained}

@@ -1,14 +1,14 @@
 -- What explains the reply to a request: one tree, whose compact text is the last line.
 use Rattle.std.specs.Prelude.{◌≡◌, ◌⊎◌, ℕ, List, Option, Some, Ok, Err}
-use Rattle.sig_explain_audit.specs.Explained.{IsAuditExplanation}
-use Rattle.sig_explain_gate.specs.Explained.{IsGateExplanation}
+use Rattle.sig_explain_audit.specs.AuditExplanation.{IsAuditExplanation}
+use Rattle.sig_explain_gate.specs.GateExplanation.{IsGateExplanation}
 use Rattle.sig_explain_log.specs.Consistency.{consistency_tree}
 use Rattle.sig_explain_log.specs.Log.{log_tree}
 use Rattle.sig_explain_log.specs.Request.{request_tree}
 use Rattle.sig_explain_verify.specs.Inputs.{Inputs}
-use Rattle.sig_explain_verify.specs.Refused.{IsRefusedTree}
+use Rattle.sig_explain_verify.specs.RefusedTree.{IsRefusedTree}
 use Rattle.sig_explain_verify.specs.Verified.{IsVerifiedTree}
-use Rattle.sig_explain_witness.specs.Explained.{IsWitnessExplanation}
+use Rattle.sig_explain_witness.specs.WitnessExplanation.{IsWitnessExplanation}
 use Rattle.sig_json.specs.Data.{Data}
 use Rattle.sig_program.specs.ConsistencyLink.{IsConsistencyVerdict}
 use Rattle.sig_program.specs.Link.{IsLogVerdict}
@@ -30,7 +30,7 @@ use Rattle.sig_verify.specs.OfflineVerdict.{Outcome}
 use Rattle.sig_verify.specs.declared.link.Link.{Link}
 use Rattle.sig_verify.specs.declared.logged_entry.LoggedEntry.{LoggedEntry}
 
--- the text is no request of the table, and the tree says what is wrong with it
+-- the text is not a request of the table, and the tree says what is wrong with it
 abbrev pub IsFaultTree : Table → List ℕ → Data → Type 0
 IsFaultTree table text tree =
     (fault : RequestFault) × (request_fault_in table text ≡ Some fault) × (tree ≡ request_tree fault)

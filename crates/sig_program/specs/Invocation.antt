@@ -3,7 +3,7 @@ use Rattle.std.specs.Prelude.{◌≡◌, ℕ, ◌≤◌, List, [], ◌∷◌, co
 use Rattle.sig_program.specs.declared.invocation.Invocation.{Invocation}
 use Rattle.sig_program.specs.declared.invocation.Invocation.TheVariants.{Reply, Explanation, Demo}
 use Rattle.sig_program.specs.Command.{Names}
-use Rattle.sig_program.specs.Explained.{IsExplain, NamesExplained}
+use Rattle.sig_program.specs.ExplainWords.{IsExplain, NamesExplained}
 
 -- from 1 to 4096
 pub record IsDemoCount (count : ℕ) : Type 0 where

@@ -1,6 +1,6 @@
 pub mod Command
 pub mod Demo
-pub mod Explained
+pub mod ExplainWords
 pub mod ExplainedReply
 pub mod Explanation
 pub mod Invocation

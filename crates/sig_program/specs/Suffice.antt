@@ -1,4 +1,5 @@
--- Nothing else matters: of the accepted signatures of a request those decide its reply that `questions` lists.
+-- Nothing else matters: of the accepted signatures of a request those alone decide its reply that its checkpoint or its
+-- bundle asks for, also where no list was written.
 use Rattle.std.specs.Prelude.{◌↔◌, ℕ, List, Contains}
 use Rattle.sig_base.specs.declared.checker.AcceptedRow.{AcceptedRow}
 use Rattle.sig_questions.specs.Asked.{IsAskedBy}
@@ -53,8 +54,8 @@ AgreeOn rows one other = (row : AcceptedRow) → Contains rows row → Contains 
 abbrev pub AgreeOnHead : ClaimedHead → List AcceptedRow → Type 0
 AgreeOnHead head rows = (asked : List AcceptedRow) → AreHeadQuestions head asked → AgreeOn asked head.accepted rows
 
--- Two requests of `log` that differ in nothing but their accepted signatures, and in these in none that `questions log`
--- lists, have the same reply.
+-- Two requests of `log` that differ in nothing but their accepted signatures, and in these in none that the checkpoint
+-- asks for, have the same reply, also where no list was written.
 abbrev pub LogQuestionsSuffice : Type 0
 LogQuestionsSuffice =
     (text other : List ℕ) (request : LogRequest) (rows : List AcceptedRow)
@@ -62,8 +63,8 @@ LogQuestionsSuffice =
     → AgreeOnHead request.head rows
     → (reply : Reply) → IsReply Log text reply ↔ IsReply Log other reply
 
--- Two requests of `consistency` that differ in nothing but their accepted signatures, and in these in none that
--- `questions consistency` lists, have the same reply.
+-- Two requests of `consistency` that differ in nothing but their accepted signatures, and in these in none that the
+-- checkpoint asks for, have the same reply, also where no list was written.
 abbrev pub ConsistencyQuestionsSuffice : Type 0
 ConsistencyQuestionsSuffice =
     (text other : List ℕ) (request : ConsistencyRequest) (rows : List AcceptedRow)
@@ -83,14 +84,14 @@ verify_with_accepted request rows = record {
   entries = request.entries;
 }
 
--- the request's accepted signatures and these have the same of those that a link asks for: of those that
--- `questions verify` lists
+-- the request's accepted signatures and these have the same of those that a link asks for, also where no list was
+-- written
 abbrev pub AgreeOnAsked : VerifyRequest → List AcceptedRow → Type 0
 AgreeOnAsked request rows =
     (row : AcceptedRow) → IsAskedBy (inputs request) row → Contains request.accepted row ↔ Contains rows row
 
 -- Two requests of `verify` that differ in nothing but their accepted signatures, and in these in none that a link asks
--- for, have the same reply.
+-- for, have the same reply, also where no list was written.
 abbrev pub VerifyQuestionsSuffice : Type 0
 VerifyQuestionsSuffice =
     (text other : List ℕ) (request : VerifyRequest) (rows : List AcceptedRow)

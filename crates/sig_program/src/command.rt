@@ -35,7 +35,7 @@ pub enum Command {
 
 impl Command {
     /// Returns the command that the words name; `None` if and only if they name none. It takes no memory.
-    #[tactic(auto, using(crate::proofs::Naming::naming))]
+    #[tactic(auto, using(crate::proofs::CommandNames::naming))]
     pub fn named(words: &[Text]) -> Option<Command>
         ensures { MatchOption result (¬ IsCommand words.now) (Names words.now) }
     {

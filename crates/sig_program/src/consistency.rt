@@ -52,31 +52,6 @@ fn reply_to(alloc: Global, request: &ConsistencyRequest) -> Result<Reply, OutOfM
     reply_under(alloc, request, verdict)
 }
 
-/// The reply to a request of which this is the first link that fails, or none.
-pub(crate) fn reply_under(
-    alloc: Global,
-    request: &ConsistencyRequest,
-    verdict: Option<Link>,
-) -> Result<Reply, OutOfMemory>
-    requires { IsConsistencyVerdict request.now verdict }
-    ensures { (text : List ℕ) → IsRequestOf consistency_request text request.now
-        → IfOk result (IsReply Consistency text) }
-{
-    match verdict {
-        Some(link) => refused(alloc, link),
-        None => grown_reply(alloc, request),
-    }
-}
-
-/// The reply to a request of which every link holds.
-fn grown_reply(alloc: Global, request: &ConsistencyRequest) -> Result<Reply, OutOfMemory>
-    requires { IsGrown request.now }
-    ensures { IfOk result (IsConsistentReply request.now) }
-{
-    let second = front_line(alloc, request)?;
-    consistent(alloc, request, &second)
-}
-
 /// The first link that fails of a request, or none.
 #[tactic(auto, using(crate::proofs::ConsistencyVerdicts::verdicts))]
 pub(crate) fn failing_link(
@@ -111,4 +86,29 @@ fn is_grown(request: &ConsistencyRequest) -> bool
         &request.root_hash,
     )
     .is_ok()
+}
+
+/// The reply to a request of which this is the first link that fails, or none.
+pub(crate) fn reply_under(
+    alloc: Global,
+    request: &ConsistencyRequest,
+    verdict: Option<Link>,
+) -> Result<Reply, OutOfMemory>
+    requires { IsConsistencyVerdict request.now verdict }
+    ensures { (text : List ℕ) → IsRequestOf consistency_request text request.now
+        → IfOk result (IsReply Consistency text) }
+{
+    match verdict {
+        Some(link) => refused(alloc, link),
+        None => grown_reply(alloc, request),
+    }
+}
+
+/// The reply to a request of which every link holds.
+fn grown_reply(alloc: Global, request: &ConsistencyRequest) -> Result<Reply, OutOfMemory>
+    requires { IsGrown request.now }
+    ensures { IfOk result (IsConsistentReply request.now) }
+{
+    let second = front_line(alloc, request)?;
+    consistent(alloc, request, &second)
 }

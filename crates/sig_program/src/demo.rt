@@ -65,15 +65,6 @@ fn reply_over(alloc: Global, count: u64, log: &DemoLog) -> Result<Reply, OutOfMe
     })
 }
 
-/// The lines with this root and this last line. Fails only if out of memory.
-fn lines(alloc: Global, count: u64, root: &str, line: &str) -> Result<Text, OutOfMemory>
-    ensures { IfOk result (λ text. text ≡ codes "entries " ++ (decimal count ++ (codes "\nroot " ++ (root.now ++
-        (codes "\n" ++ (line.now ++ codes "\n")))))) }
-{
-    let text = format!(in alloc; "entries {count}\nroot {root}\n{line}\n")?;
-    Ok(Text::from(text))
-}
-
 /// The reply of `log` to the request over the log of so many entries. Fails only if out of memory.
 fn logged_reply(alloc: Global, count: u64, log: &DemoLog) -> Result<Reply, OutOfMemory>
     requires some { 1 ≤ count }
@@ -93,4 +84,13 @@ fn first_line(text: &str) -> &str
         Some((line, _)) => line,
         None => text,
     }
+}
+
+/// The lines with this root and this last line. Fails only if out of memory.
+fn lines(alloc: Global, count: u64, root: &str, line: &str) -> Result<Text, OutOfMemory>
+    ensures { IfOk result (λ text. text ≡ codes "entries " ++ (decimal count ++ (codes "\nroot " ++ (root.now ++
+        (codes "\n" ++ (line.now ++ codes "\n")))))) }
+{
+    let text = format!(in alloc; "entries {count}\nroot {root}\n{line}\n")?;
+    Ok(Text::from(text))
 }

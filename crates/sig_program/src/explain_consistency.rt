@@ -15,8 +15,8 @@ use sig_request_fault::consistency_request_fault;
 use std::alloc::Global;
 
 /// Returns the reply of `consistency` to a request's text, and its explanation as the last line: what is wrong with a text
-/// that is no request; of a request the first link that fails with what it compares, or what was verified. Fails only if
-/// out of memory.
+/// that is not a request; of a request the first link that fails with what it compares, or what was verified. Fails
+/// only if out of memory.
 pub fn explain_consistency(alloc: Global, text: &[u8]) -> Result<Reply, OutOfMemory>
     ensures { IfOk result (IsExplained Consistency text.now) }
 {
@@ -28,14 +28,14 @@ pub fn explain_consistency(alloc: Global, text: &[u8]) -> Result<Reply, OutOfMem
     reply
 }
 
-/// The explained reply to a text that is no request.
+/// The explained reply to a text that is not a request.
 fn explain_fault(alloc: Global, text: &[u8]) -> Result<Reply, OutOfMemory>
     requires { IsReadFrom consistency_request text.now None }
     ensures { IfOk result (IsExplained Consistency text.now) }
 {
     match consistency_request_fault(alloc, text)? {
         Some(fault) => refused_text(alloc, &fault),
-        // Something is wrong with a text that is no request.
+        // Something is wrong with a text that is not a request.
         None => unreachable!(),
     }
 }

@@ -28,14 +28,14 @@ pub fn explain_log(alloc: Global, text: &[u8]) -> Result<Reply, OutOfMemory>
     reply
 }
 
-/// The explained reply to a text that is no request.
+/// The explained reply to a text that is not a request.
 fn explain_fault(alloc: Global, text: &[u8]) -> Result<Reply, OutOfMemory>
     requires { IsReadFrom log_request text.now None }
     ensures { IfOk result (IsExplained Log text.now) }
 {
     match log_request_fault(alloc, text)? {
         Some(fault) => refused_text(alloc, &fault),
-        // Something is wrong with a text that is no request.
+        // Something is wrong with a text that is not a request.
         None => unreachable!(),
     }
 }

@@ -1,7 +1,7 @@
 //! The command `explain verify`: the reply of `verify`, and why.
 ghost use Rattle.std.specs.Prelude.{◌≡◌, ℕ, IfOk, List, None, Ok, Err, Some};
 ghost use Rattle.sig_explain_verify.specs.Inputs.{inputs_of};
-ghost use Rattle.sig_explain_verify.specs.Refused.{IsRefusedTree};
+ghost use Rattle.sig_explain_verify.specs.RefusedTree.{IsRefusedTree};
 ghost use Rattle.sig_explain_verify.specs.Verified.{IsVerifiedTree};
 ghost use Rattle.sig_json.specs.Tree.{document_tree};
 ghost use Rattle.sig_program.specs.ExplainedReply.{IsExplained};
@@ -25,8 +25,8 @@ use sig_verify::{Link, LoggedEntry, OfflineError};
 use std::alloc::Global;
 
 /// Returns the reply of `verify` to a request's text, and its explanation as the last line: what is wrong with a text that
-/// is no request; of a request the first link of the chain of trust that fails with what it compares, or what was verified.
-/// The chain of trust is tested once. Fails only if out of memory.
+/// is not a request; of a request the first link of the chain of trust that fails with what it compares, or what was
+/// verified. The chain of trust is tested once. Fails only if out of memory.
 pub fn explain_verify(alloc: Global, text: &[u8]) -> Result<Reply, OutOfMemory>
     ensures { IfOk result (IsExplained Verify text.now) }
 {
@@ -38,14 +38,14 @@ pub fn explain_verify(alloc: Global, text: &[u8]) -> Result<Reply, OutOfMemory>
     reply
 }
 
-/// The explained reply to a text that is no request.
+/// The explained reply to a text that is not a request.
 fn explain_fault(alloc: Global, text: &[u8]) -> Result<Reply, OutOfMemory>
     requires { IsReadFrom verify_request text.now None }
     ensures { IfOk result (IsExplained Verify text.now) }
 {
     match verify_request_fault(alloc, text)? {
         Some(fault) => refused_text(alloc, &fault),
-        // Something is wrong with a text that is no request.
+        // Something is wrong with a text that is not a request.
         None => unreachable!(),
     }
 }
@@ -64,7 +64,7 @@ fn explain_request(alloc: Global, request: &VerifyRequest) -> Result<Reply, OutO
         Err(error) => {
             let reply = match error.link() {
                 Some(link) => explain_refusal(alloc, request, &error, link),
-                // The error of no link is that memory ran out.
+                // Only `OutOfMemory` belongs to no link.
                 None => Err(OutOfMemory),
             };
             drop(error);

@@ -1,6 +1,6 @@
 //! The commands whose replies `explain` explains.
 ghost use Rattle.std.specs.Prelude.{MatchOption};
-ghost use Rattle.sig_program.specs.Explained.{IsExplain, NamesExplained};
+ghost use Rattle.sig_program.specs.ExplainWords.{IsExplain, NamesExplained};
 
 use sig_base::Text;
 
@@ -22,9 +22,9 @@ pub enum Explained {
 }
 
 impl Explained {
-    /// Returns the command behind the word `explain`; `None` if and only if the words are not `explain` and a command that
-    /// is explained. It takes no memory.
-    #[tactic(auto, using(crate::proofs::Naming::naming, crate::proofs::Invocations::explaining))]
+    /// Returns the command after the word `explain`; `None` if and only if the words are not `explain` and a command
+    /// that is explained. It takes no memory.
+    #[tactic(auto, using(crate::proofs::CommandNames::naming, crate::proofs::Invocations::explaining))]
     pub fn named(words: &[Text]) -> Option<Explained>
         ensures { MatchOption result (¬ IsExplain words.now) (NamesExplained words.now) }
     {

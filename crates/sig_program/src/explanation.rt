@@ -40,8 +40,8 @@ pub fn explained_by(
     })
 }
 
-/// Returns `refused request`, and what is wrong with the text that is no request, with status 2. Fails only if out of
-/// memory.
+/// Returns `refused request`, and what is wrong with the text that is not a request, with status 2. Fails only if out
+/// of memory.
 pub fn refused_text(alloc: Global, fault: &RequestFault) -> Result<Reply, OutOfMemory>
     ensures { IfOk result (λ reply. reply ≡ explained_by (refusal_reply Request) (request_tree fault.now)) }
 {

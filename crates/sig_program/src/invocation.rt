@@ -32,8 +32,8 @@ impl Invocation {
     }
 }
 
-/// What words that name no command ask for; `None` if and only if that is no explanation, and not `demo`. It takes no
-/// memory.
+/// What words that name no command ask for; `None` if and only if that is neither an explanation nor `demo`. It
+/// takes no memory.
 #[tactic(auto, using(crate::proofs::Invocations::invocations))]
 fn explanation_or_demo(words: &[Text]) -> Option<Invocation>
     ensures { MatchOption result (IsNeither words.now) (Invokes words.now) }
@@ -49,7 +49,7 @@ fn explanation_or_demo(words: &[Text]) -> Option<Invocation>
 
 /// The number of entries that `demo` is asked for; `None` if and only if the words are not `demo` and a number from 1
 /// to 4096. It takes no memory.
-#[tactic(auto, using(crate::proofs::Invocations::invocations, crate::proofs::Naming::naming))]
+#[tactic(auto, using(crate::proofs::Invocations::invocations, crate::proofs::CommandNames::naming))]
 fn demo_count(words: &[Text]) -> Option<u64>
     ensures { MatchOption result ((count : ℕ) → ¬ IsDemo words.now count) (IsDemo words.now) }
 {

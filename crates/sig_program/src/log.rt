@@ -39,6 +39,40 @@ fn reply_to(alloc: Global, request: &LogRequest) -> Result<Reply, OutOfMemory>
     reply_under(alloc, request, verdict)
 }
 
+/// The first link that fails of a request, or none.
+#[tactic(auto, using(crate::proofs::LogVerdicts::verdicts))]
+pub(crate) fn failing_link(alloc: Global, request: &LogRequest) -> Result<Option<Link>, OutOfMemory>
+    ensures { IfOk result (IsLogVerdict request.now) }
+{
+    let proof = &request.proof;
+    if let Some(link) = failing_link_of(alloc, &request.head, proof.tree_size, &proof.root_hash)? {
+        return Ok(Some(link));
+    }
+    if !is_logged(request) {
+        return Ok(Some(Link::Inclusion));
+    }
+    Ok(None)
+}
+
+/// Whether the path leads from the entry's leaf to the root.
+#[tactic(auto, using(crate::proofs::ProofPaths::logged))]
+fn is_logged(request: &LogRequest) -> bool
+    ensures { IsTrue result ↔ IsLogged request.now }
+{
+    let proof = &request.proof;
+    let Ok(index) = u64::try_from(proof.log_index) else {
+        return false;
+    };
+    verify_inclusion(
+        index,
+        &hash_leaf(request.entry.as_slice()),
+        proof.tree_size,
+        proof.hashes.as_slice(),
+        &proof.root_hash,
+    )
+    .is_ok()
+}
+
 /// The reply to a request of which this is the first link that fails, or none.
 pub(crate) fn reply_under(
     alloc: Global,
@@ -66,38 +100,4 @@ fn logged_reply(alloc: Global, request: &LogRequest) -> Result<Reply, OutOfMemor
         &request.proof,
     )?;
     logged(alloc, &request.proof, &second)
-}
-
-/// The first link that fails of a request, or none.
-#[tactic(auto, using(crate::proofs::LogVerdicts::verdicts))]
-pub(crate) fn failing_link(alloc: Global, request: &LogRequest) -> Result<Option<Link>, OutOfMemory>
-    ensures { IfOk result (IsLogVerdict request.now) }
-{
-    let proof = &request.proof;
-    if let Some(link) = failing_link_of(alloc, &request.head, proof.tree_size, &proof.root_hash)? {
-        return Ok(Some(link));
-    }
-    if !is_logged(request) {
-        return Ok(Some(Link::Inclusion));
-    }
-    Ok(None)
-}
-
-/// Whether the path leads from the entry's leaf to the root.
-#[tactic(auto, using(crate::proofs::Logged::logged))]
-fn is_logged(request: &LogRequest) -> bool
-    ensures { IsTrue result ↔ IsLogged request.now }
-{
-    let proof = &request.proof;
-    let Ok(index) = u64::try_from(proof.log_index) else {
-        return false;
-    };
-    verify_inclusion(
-        index,
-        &hash_leaf(request.entry.as_slice()),
-        proof.tree_size,
-        proof.hashes.as_slice(),
-        &proof.root_hash,
-    )
-    .is_ok()
 }

@@ -164,38 +164,6 @@ pub fn run<S: Source, K: Sink>(alloc: Global, words: &[Text], source: &mut S, si
     }
 }
 
-/// Returns the reply to what is asked for: a command's to the request that the source has left. For `demo` nothing is
-/// read.
-#[tactic(auto, using(crate::proofs::Runs::runs))]
-fn reply_for<S: Source>(
-    alloc: Global,
-    invocation: Invocation,
-    source: &mut S,
-) -> Result<Reply, NoReply>
-    requires { HasCount invocation }
-    ensures ok { IfOk result (IsReplyOf invocation (S.left source.old) (S.left source.new)) }
-    ensures failed { IsErrOf result NoReply.Failed → Rose (S.faults source.old) (S.faults source.new) }
-    ensures unread { (count : ℕ) → invocation ≡ Demo count → source.new ≡ source.old }
-    ensures most { TookAtMost (most_bytes + 1) (S.left source.old) (S.left source.new) }
-    ensures later { S.faults source.old ≤ S.faults source.new }
-{
-    match invocation {
-        Invocation::Reply(command) => match read_request(alloc, source) {
-            Ok(text) => Ok(command.reply(alloc, text.as_slice())?),
-            Err(ReadFault::TooLong) => Ok(refused(alloc, Link::Request)?),
-            Err(ReadFault::Failed) => Err(NoReply::Failed),
-            Err(ReadFault::OutOfMemory) => Err(NoReply::OutOfMemory),
-        },
-        Invocation::Explanation(what) => match read_request(alloc, source) {
-            Ok(text) => Ok(explained_reply(alloc, what, text.as_slice())?),
-            Err(ReadFault::TooLong) => Ok(long_reply(alloc)?),
-            Err(ReadFault::Failed) => Err(NoReply::Failed),
-            Err(ReadFault::OutOfMemory) => Err(NoReply::OutOfMemory),
-        },
-        Invocation::Demo(count) => Ok(demo(alloc, count)?),
-    }
-}
-
 impl Command {
     /// Returns the reply to a request's text. Fails only if out of memory.
     pub fn reply(self, alloc: Global, request: &[u8]) -> Result<Reply, OutOfMemory>
@@ -231,5 +199,37 @@ fn finish<K: Sink>(sink: &mut K, status: u8, text: &[u8]) -> u8
     match write_reply(sink, text) {
         Ok(()) => status,
         Err(_) => FAULT,
+    }
+}
+
+/// Returns the reply to what is asked for: a command's to the request that the source has left. For `demo` nothing is
+/// read.
+#[tactic(auto, using(crate::proofs::Runs::runs))]
+fn reply_for<S: Source>(
+    alloc: Global,
+    invocation: Invocation,
+    source: &mut S,
+) -> Result<Reply, NoReply>
+    requires { HasCount invocation }
+    ensures ok { IfOk result (IsReplyOf invocation (S.left source.old) (S.left source.new)) }
+    ensures failed { IsErrOf result NoReply.Failed → Rose (S.faults source.old) (S.faults source.new) }
+    ensures unread { (count : ℕ) → invocation ≡ Demo count → source.new ≡ source.old }
+    ensures most { TookAtMost (most_bytes + 1) (S.left source.old) (S.left source.new) }
+    ensures later { S.faults source.old ≤ S.faults source.new }
+{
+    match invocation {
+        Invocation::Reply(command) => match read_request(alloc, source) {
+            Ok(text) => Ok(command.reply(alloc, text.as_slice())?),
+            Err(ReadFault::TooLong) => Ok(refused(alloc, Link::Request)?),
+            Err(ReadFault::Failed) => Err(NoReply::Failed),
+            Err(ReadFault::OutOfMemory) => Err(NoReply::OutOfMemory),
+        },
+        Invocation::Explanation(what) => match read_request(alloc, source) {
+            Ok(text) => Ok(explained_reply(alloc, what, text.as_slice())?),
+            Err(ReadFault::TooLong) => Ok(long_reply(alloc)?),
+            Err(ReadFault::Failed) => Err(NoReply::Failed),
+            Err(ReadFault::OutOfMemory) => Err(NoReply::OutOfMemory),
+        },
+        Invocation::Demo(count) => Ok(demo(alloc, count)?),
     }
 }

@@ -52,29 +52,11 @@ fn reply_to(alloc: Global, request: &VerifyRequest) -> Result<Reply, OutOfMemory
             drop(error);
             match link {
                 Some(link) => refused(alloc, link),
-                // The error of no link is that memory ran out.
+                // Only `OutOfMemory` belongs to no link.
                 None => Err(OutOfMemory),
             }
         }
     }
-}
-
-/// The reply to a request of which every link holds, with the log entry of its bundle.
-pub(crate) fn verified_reply(
-    alloc: Global,
-    request: &VerifyRequest,
-    offline: &LoggedEntry,
-) -> Result<Reply, OutOfMemory>
-    requires { IsProofOf offline.now.body offline.now.proof }
-    ensures { IfOk result (IsVerifiedReply request.entry.now offline.now) }
-{
-    let second = second_line(
-        alloc,
-        &request.entries,
-        offline.body.as_slice(),
-        &offline.proof,
-    )?;
-    verified(alloc, &offline.proof, &second)
 }
 
 /// The log entry of the request's bundle, or the error of the first link of the chain of trust that fails.
@@ -101,4 +83,22 @@ pub(crate) fn verify_chain(
         &policy,
         &request.accepted,
     )
+}
+
+/// The reply to a request of which every link holds, with the log entry of its bundle.
+pub(crate) fn verified_reply(
+    alloc: Global,
+    request: &VerifyRequest,
+    logged: &LoggedEntry,
+) -> Result<Reply, OutOfMemory>
+    requires { IsProofOf logged.now.body logged.now.proof }
+    ensures { IfOk result (IsVerifiedReply request.entry.now logged.now) }
+{
+    let second = second_line(
+        alloc,
+        &request.entries,
+        logged.body.as_slice(),
+        &logged.proof,
+    )?;
+    verified(alloc, &logged.proof, &second)
 }

@@ -5,15 +5,15 @@ use Rattle.std.specs.List.{AllByRecursion}
 use Rattle.sig_base.specs.declared.fault.CheckpointFault.{CheckpointFault}
 use Rattle.sig_rekor.specs.declared.checkpoint.Checkpoint.{Checkpoint}
 use Rattle.sig_rekor.specs.declared.checkpoint.CheckpointSignature.{CheckpointSignature}
-use Rattle.sig_rekor.specs.Cut.{cut_at, parts_between, trimmed}
+use Rattle.sig_rekor.specs.TextCuts.{cut_at, parts_between, trimmed}
 use Rattle.sig_rekor.specs.Reading.{read_each}
 use Rattle.sig_rekor.specs.NoteText.{note_of}
 use Rattle.sig_rekor.specs.SignatureText.{signature_of}
 use Rattle.sig_rekor.specs.CheckpointText.{quotation_mark, empty_line, is_written, signatures_by, checkpoint_of}
 use Rattle.sig_rekor.specs.Faults.{IsPieceFault, StandsForSignature, HasPieces, IsNoteFault, IsCheckpointFault}
-use Rattle.sig_rekor.proofs.Cutting.{cut_at-some, cut_at-none, cut_at-cut, cut_at-lacks, parts_between-found}
-use Rattle.sig_rekor.proofs.Cutting.{parts_between-only}
-use Rattle.sig_rekor.proofs.Cutting.{trimmed-found, trimmed-only}
+use Rattle.sig_rekor.proofs.CutLaws.{cut_at-some, cut_at-none, cut_at-cut, cut_at-lacks, parts_between-found}
+use Rattle.sig_rekor.proofs.CutLaws.{parts_between-only}
+use Rattle.sig_rekor.proofs.CutLaws.{trimmed-found, trimmed-only}
 use Rattle.sig_rekor.proofs.NoteFaults.{note-fails, note-only_fails}
 use Rattle.sig_rekor.proofs.SignatureLaws.{signature-found, signature-only}
 use Rattle.sig_rekor.proofs.SignatureFaults.{signature-fails, signature-only_fails}

@@ -2,13 +2,13 @@
 use Rattle.std.proofs.Common.{◌≡◌, ℕ, List, Option, Some, None, Ok, refl, subst, arith, filter}
 use Rattle.sig_base.proofs.ResultSteps.{bind_ok}
 use Rattle.sig_rekor.specs.declared.checkpoint.SignedCheckpoint.{SignedCheckpoint}
-use Rattle.sig_rekor.specs.Cut.{cut_at, parts_between, trimmed}
+use Rattle.sig_rekor.specs.TextCuts.{cut_at, parts_between, trimmed}
 use Rattle.sig_rekor.specs.NoteText.{note_of}
 use Rattle.sig_rekor.specs.SignatureText.{IsSignature, signature_of}
 use Rattle.sig_rekor.specs.CheckpointText.{quotation_mark, empty_line, is_written, IsCheckpoint, signatures_by}
 use Rattle.sig_rekor.specs.CheckpointText.{checkpoint_by, checkpoint_of}
-use Rattle.sig_rekor.proofs.Cutting.{cut_at-some, cut_at-cut, parts_between-found, parts_between-only, trimmed-found}
-use Rattle.sig_rekor.proofs.Cutting.{trimmed-only}
+use Rattle.sig_rekor.proofs.CutLaws.{cut_at-some, cut_at-cut, parts_between-found, parts_between-only, trimmed-found}
+use Rattle.sig_rekor.proofs.CutLaws.{trimmed-only}
 use Rattle.sig_rekor.proofs.Steps.{read_each-found, read_each-only}
 use Rattle.sig_rekor.proofs.NoteLaws.{note-found, note-only}
 use Rattle.sig_rekor.proofs.SignatureLaws.{signature-found, signature-only}

@@ -1,4 +1,4 @@
-pub mod Cutting
+pub mod CutLaws
 pub mod Notes
 pub mod Signatures
 pub mod WrittenLines
@@ -7,7 +7,7 @@ pub mod NoteLaws
 pub mod SignatureLaws
 pub mod CheckpointLaws
 pub mod VerifyLaws
-pub mod Deduped
+pub mod DedupedLists
 pub mod Graphic
 pub mod WrittenCuts
 pub mod ReadBackLaws

@@ -10,13 +10,13 @@ use Rattle.sig_base.specs.declared.fault.CheckpointFault.TheVariants.{NoteFormat
 use Rattle.sig_base.specs.declared.fault.CheckpointFault.TheVariants.{HashLength}
 use Rattle.sig_base.specs.Base64.{base64_bytes}
 use Rattle.sig_rekor.specs.declared.checkpoint.Checkpoint.{Checkpoint}
-use Rattle.sig_rekor.specs.Cut.{IsParts, parts_between}
+use Rattle.sig_rekor.specs.TextCuts.{IsParts, parts_between}
 use Rattle.sig_rekor.specs.Reading.{base64_of}
 use Rattle.sig_rekor.specs.NoteText.{newline, is_blank, is_not_empty, IsSize, IsNote, origin_of, tree_size_of, hash_by}
 use Rattle.sig_rekor.specs.NoteText.{root_hash_of, note_by, note_of}
 use Rattle.sig_base.specs.Rules.{FailsFirst}
 use Rattle.sig_rekor.specs.Faults.{OfLines, OfBytes, NoteKeeps, note_rules, IsNoteFault}
-use Rattle.sig_rekor.proofs.Cutting.{parts_between-found, parts_between-only}
+use Rattle.sig_rekor.proofs.CutLaws.{parts_between-found, parts_between-only}
 use Rattle.sig_rekor.proofs.NoteLaws.{note-found, origin-only, size-found, size-only, hash-only}
 use Rattle.sig_base.proofs.RuleLaws.{one_fails, none_fails}
 use Rattle.sig_rekor.proofs.Steps.{chosen}

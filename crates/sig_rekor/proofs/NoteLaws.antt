@@ -9,7 +9,7 @@ use Rattle.sig_base.specs.declared.fault.CheckpointFault.TheVariants.{EmptyOrigi
 use Rattle.sig_rekor.specs.declared.checkpoint.Checkpoint.{Checkpoint}
 use Rattle.sig_rekor.specs.declared.checkpoint.OtherContent.{OtherContent}
 use Rattle.sig_rekor.specs.declared.checkpoint.OtherContent.TheVariants.{KeyValue, Value}
-use Rattle.sig_rekor.specs.Cut.{IsParts, cut_at, parts_between}
+use Rattle.sig_rekor.specs.TextCuts.{IsParts, cut_at, parts_between}
 use Rattle.sig_base.specs.Base64.{base64_bytes}
 use Rattle.sig_base.proofs.Digits.{digits_mean}
 use Rattle.sig_base.proofs.ResultSteps.{bind_ok}
@@ -17,8 +17,8 @@ use Rattle.sig_rekor.specs.Reading.{base64_of}
 use Rattle.sig_rekor.specs.NoteText.{newline, colon, is_blank, is_not_empty, IsContent, IsSize, IsNote, content_by}
 use Rattle.sig_rekor.specs.NoteText.{other_content_of, contents_of, origin_of, tree_size_of, hash_by, root_hash_of}
 use Rattle.sig_rekor.specs.NoteText.{note_by, note_of}
-use Rattle.sig_rekor.proofs.Cutting.{cut_at-some, cut_at-none, cut_at-cut, cut_at-lacks, parts_between-found}
-use Rattle.sig_rekor.proofs.Cutting.{parts_between-only}
+use Rattle.sig_rekor.proofs.CutLaws.{cut_at-some, cut_at-none, cut_at-cut, cut_at-lacks, parts_between-found}
+use Rattle.sig_rekor.proofs.CutLaws.{parts_between-only}
 use Rattle.sig_rekor.proofs.Notes.{tree_size_of-numeral}
 use Rattle.sig_rekor.proofs.Steps.{chosen, ok_or-ok}
 

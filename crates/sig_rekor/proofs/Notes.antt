@@ -9,10 +9,10 @@ use Rattle.std.specs.Str.Parse.{IsNumeral, AllDigits, digits_value, without_lead
 use Rattle.sig_base.proofs.Digits.{digits_mean}
 use Rattle.sig_base.specs.declared.fault.CheckpointFault.TheVariants.{NoteFormat, Size}
 use Rattle.sig_rekor.specs.declared.checkpoint.OtherContent.{OtherContent}
-use Rattle.sig_rekor.specs.Cut.{cut_at, parts_between, parts_within}
+use Rattle.sig_rekor.specs.TextCuts.{cut_at, parts_between, parts_within}
 use Rattle.sig_rekor.specs.NoteText.{newline, is_not_empty, tree_size_of, note_by, note_of, other_content_of}
 use Rattle.sig_rekor.specs.NoteText.{contents_of}
-use Rattle.sig_rekor.proofs.Cutting.{parts_between-whole, parts_between-cut}
+use Rattle.sig_rekor.proofs.CutLaws.{parts_between-whole, parts_between-cut}
 
 -- ---- the size
 

@@ -15,13 +15,13 @@ use Rattle.sig_rekor.specs.declared.checkpoint.SignedCheckpoint.{SignedCheckpoin
 use Rattle.sig_rekor.specs.declared.checkpoint.Checkpoint.{Checkpoint}
 use Rattle.sig_rekor.specs.declared.checkpoint.CheckpointSignature.{CheckpointSignature}
 use Rattle.sig_rekor.specs.declared.checkpoint.OtherContent.{OtherContent}
-use Rattle.sig_rekor.specs.Cut.{IsParts, Lacks, cut_at, parts_between, trimmed}
+use Rattle.sig_rekor.specs.TextCuts.{IsParts, Lacks, cut_at, parts_between, trimmed}
 use Rattle.sig_base.specs.Base64.{base64_text, base64_bytes}
 use Rattle.sig_rekor.specs.NoteText.{newline, is_blank, contents_of, content_text, content_line, note_of, note_text}
 use Rattle.sig_rekor.specs.SignatureText.{em_dash, space, fingerprint_and_raw, signature_of, signature_text}
 use Rattle.sig_rekor.specs.CheckpointText.{quotation_mark, empty_line, signatures_by, checkpoint_of, checkpoint_text}
 use Rattle.sig_rekor.specs.ReadBack.{IsContentLine, IsSignerName, IsSignatureValue, IsNoteValue, ReadsBack}
-use Rattle.sig_rekor.proofs.Cutting.{parts_between-whole, parts_between-cut, parts_between-found, trimmed-only}
+use Rattle.sig_rekor.proofs.CutLaws.{parts_between-whole, parts_between-cut, parts_between-found, trimmed-only}
 use Rattle.sig_rekor.proofs.NoteLaws.{origin-only, hash-only}
 use Rattle.sig_rekor.proofs.SignatureLaws.{signature-only}
 use Rattle.sig_rekor.proofs.Steps.{head_is}

@@ -10,13 +10,13 @@ use Rattle.sig_base.specs.declared.fault.CheckpointFault.TheVariants.{NoDash, Si
 use Rattle.sig_base.specs.declared.fault.CheckpointFault.TheVariants.{SignatureLength}
 use Rattle.sig_base.specs.Base64.{base64_bytes}
 use Rattle.sig_rekor.specs.declared.checkpoint.CheckpointSignature.{CheckpointSignature}
-use Rattle.sig_rekor.specs.Cut.{IsTrimmed, IsParts, trimmed, parts_between}
+use Rattle.sig_rekor.specs.TextCuts.{IsTrimmed, IsParts, trimmed, parts_between}
 use Rattle.sig_rekor.specs.Reading.{base64_of}
 use Rattle.sig_rekor.specs.SignatureText.{em_dash, space, fingerprint_and_raw, IsSignature, line_of, signature_by}
 use Rattle.sig_rekor.specs.SignatureText.{signature_of}
 use Rattle.sig_base.specs.Rules.{FailsFirst}
 use Rattle.sig_rekor.specs.Faults.{OfThird, OfBytes, SignatureKeeps, signature_rules, IsSignatureFault}
-use Rattle.sig_rekor.proofs.Cutting.{parts_between-found, parts_between-only, trimmed-only}
+use Rattle.sig_rekor.proofs.CutLaws.{parts_between-found, parts_between-only, trimmed-only}
 use Rattle.sig_rekor.proofs.SignatureLaws.{line-found, line-only, signature-found}
 use Rattle.sig_base.proofs.RuleLaws.{one_fails, none_fails}
 use Rattle.sig_rekor.proofs.Steps.{chosen}

@@ -9,13 +9,13 @@ use Rattle.std.specs.List.{starts_with}
 use Rattle.std.specs.Str.{trim_end}
 use Rattle.sig_base.specs.declared.fault.CheckpointFault.TheVariants.{NoDash, SignatureBase64, SignatureLength}
 use Rattle.sig_rekor.specs.declared.checkpoint.CheckpointSignature.{CheckpointSignature}
-use Rattle.sig_rekor.specs.Cut.{IsTrimmed, IsParts, trimmed, parts_between}
+use Rattle.sig_rekor.specs.TextCuts.{IsTrimmed, IsParts, trimmed, parts_between}
 use Rattle.sig_base.specs.Base64.{base64_bytes}
 use Rattle.sig_base.proofs.ResultSteps.{bind_ok}
 use Rattle.sig_rekor.specs.Reading.{base64_of}
 use Rattle.sig_rekor.specs.SignatureText.{em_dash, space, fingerprint_and_raw, IsSignature, line_of, name_and_bytes}
 use Rattle.sig_rekor.specs.SignatureText.{signature_by, signature_of}
-use Rattle.sig_rekor.proofs.Cutting.{parts_between-found, parts_between-only, trimmed-found, trimmed-only}
+use Rattle.sig_rekor.proofs.CutLaws.{parts_between-found, parts_between-only, trimmed-found, trimmed-only}
 use Rattle.sig_rekor.proofs.Steps.{chosen, ok_or-ok}
 
 -- the line after its dash

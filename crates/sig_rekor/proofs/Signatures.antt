@@ -6,14 +6,14 @@ use Rattle.sig_base.specs.ResultSteps.{◌>>=◌}
 use Rattle.sig_base.specs.declared.fault.CheckpointFault.{CheckpointFault}
 use Rattle.sig_base.specs.declared.fault.CheckpointFault.TheVariants.{SignatureFormat}
 use Rattle.sig_rekor.specs.declared.checkpoint.CheckpointSignature.{CheckpointSignature}
-use Rattle.sig_rekor.specs.Cut.{cut_at, parts_between}
+use Rattle.sig_rekor.specs.TextCuts.{cut_at, parts_between}
 use Rattle.sig_rekor.specs.declared.fault.ParseCheckpointError.{ParseCheckpointError}
 use Rattle.sig_rekor.specs.declared.fault.ParseCheckpointError.TheVariants.{OutOfMemory}
 use Rattle.sig_rekor.specs.Reading.{as_error}
 use Rattle.sig_rekor.specs.NoteText.{is_blank}
 use Rattle.sig_rekor.specs.SignatureText.{space, name_and_bytes, signature_of}
 use Rattle.sig_rekor.specs.CheckpointText.{empty_line, signatures_by, signatures_on}
-use Rattle.sig_rekor.proofs.Cutting.{parts_between-whole, parts_between-cut, parts_between-first}
+use Rattle.sig_rekor.proofs.CutLaws.{parts_between-whole, parts_between-cut, parts_between-first}
 
 -- a piece of white space alone gives none, and any other one
 pub signatures_by-blank : (piece : List ℕ) (pieces : List (List ℕ)) → is_blank piece ≡ true

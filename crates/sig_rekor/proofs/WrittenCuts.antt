@@ -3,11 +3,11 @@ use Rattle.std.proofs.Common.{◌≡◌, ◌≢◌, ℕ, ◌<◌, List, [], ◌�
 use Rattle.std.proofs.Common.{◌∙◌, ap, arith, append-nil}
 use Rattle.std.proofs.lemmas.Bool.{ne_eqb, eq-eqb}
 use Rattle.std.specs.List.{AllByRecursion}
-use Rattle.sig_rekor.specs.Cut.{Lacks, cut_at, cut_here, parts_between}
+use Rattle.sig_rekor.specs.TextCuts.{Lacks, cut_at, cut_here, parts_between}
 use Rattle.sig_rekor.specs.NoteText.{newline}
 use Rattle.sig_rekor.specs.CheckpointText.{empty_line}
 use Rattle.sig_rekor.proofs.Graphic.{IsFreeOf}
-use Rattle.sig_rekor.proofs.Cutting.{parts_between-whole, parts_between-cut}
+use Rattle.sig_rekor.proofs.CutLaws.{parts_between-whole, parts_between-cut}
 
 pub free-lacks : (s : ℕ) (t : List ℕ) → Lacks (s ∷ []) t → IsFreeOf s t
 free-lacks s [] lacks = tt

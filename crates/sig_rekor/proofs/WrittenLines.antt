@@ -5,11 +5,11 @@ use Rattle.std.proofs.Common.{Bool, false, ◌==◌, option_map, is_some}
 use Rattle.std.proofs.lemmas.List.{length-replicate}
 use Rattle.std.proofs.lemmas.Grind.{flat_map-append}
 use Rattle.std.specs.List.{flat_map}
-use Rattle.sig_rekor.specs.Cut.{cut_at, parts_between, trimmed}
+use Rattle.sig_rekor.specs.TextCuts.{cut_at, parts_between, trimmed}
 use Rattle.sig_rekor.specs.NoteText.{line_feed, newline, colon, content_by, content_line, other_content_of, contents_of}
 use Rattle.sig_rekor.specs.CheckpointText.{empty_line}
 use Rattle.sig_rekor.specs.WrittenLines.{AreWritten}
-use Rattle.sig_rekor.proofs.Cutting.{cut_at-some, cut_at-none, trimmed-found}
+use Rattle.sig_rekor.proofs.CutLaws.{cut_at-some, cut_at-none, trimmed-found}
 use Rattle.sig_rekor.proofs.Notes.{contents_of-written, contents_of-step, contents_of-end}
 
 -- a text without newlines at its ends and without an empty line

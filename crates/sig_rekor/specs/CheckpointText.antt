@@ -6,7 +6,7 @@ use Rattle.sig_base.specs.declared.fault.CheckpointFault.{CheckpointFault}
 use Rattle.sig_base.specs.declared.fault.CheckpointFault.TheVariants.{Format}
 use Rattle.sig_rekor.specs.declared.checkpoint.SignedCheckpoint.{SignedCheckpoint}
 use Rattle.sig_rekor.specs.declared.checkpoint.CheckpointSignature.{CheckpointSignature}
-use Rattle.sig_rekor.specs.Cut.{IsTrimmed, IsCut, IsParts, trimmed, cut_at, parts_between}
+use Rattle.sig_rekor.specs.TextCuts.{IsTrimmed, IsCut, IsParts, trimmed, cut_at, parts_between}
 use Rattle.sig_rekor.specs.Reading.{read_each}
 use Rattle.sig_rekor.specs.NoteText.{newline, is_blank, IsNote, note_of, note_text}
 use Rattle.sig_rekor.specs.SignatureText.{IsSignature, signature_of, signature_text}

@@ -9,7 +9,7 @@ use Rattle.sig_base.specs.declared.fault.CheckpointFault.TheVariants.{Format, No
 use Rattle.sig_base.specs.declared.fault.CheckpointFault.TheVariants.{SignatureLength, NoteFormat, EmptyOrigin, Size}
 use Rattle.sig_base.specs.declared.fault.CheckpointFault.TheVariants.{HashBase64, HashLength}
 use Rattle.sig_rekor.specs.declared.checkpoint.CheckpointSignature.{CheckpointSignature}
-use Rattle.sig_rekor.specs.Cut.{IsTrimmed, IsCut, IsParts, Lacks}
+use Rattle.sig_rekor.specs.TextCuts.{IsTrimmed, IsCut, IsParts, Lacks}
 use Rattle.sig_base.specs.Rules.{FailsFirst}
 use Rattle.sig_rekor.specs.NoteText.{line_feed, newline, hash_len, is_blank, IsSize}
 use Rattle.sig_rekor.specs.SignatureText.{em_dash, space, fingerprint_len, IsSignature}

@@ -13,7 +13,7 @@ use Rattle.sig_base.specs.declared.fault.CheckpointFault.TheVariants.{HashLength
 use Rattle.sig_rekor.specs.declared.checkpoint.Checkpoint.{Checkpoint}
 use Rattle.sig_rekor.specs.declared.checkpoint.OtherContent.{OtherContent}
 use Rattle.sig_rekor.specs.declared.checkpoint.OtherContent.TheVariants.{KeyValue, Value}
-use Rattle.sig_rekor.specs.Cut.{IsCut, IsParts, Lacks, cut_at, parts_between}
+use Rattle.sig_rekor.specs.TextCuts.{IsCut, IsParts, Lacks, cut_at, parts_between}
 use Rattle.sig_base.specs.Base64.{base64_bytes, base64_text}
 use Rattle.sig_rekor.specs.Reading.{base64_of}
 

@@ -6,7 +6,7 @@ use Rattle.sig_rekor.specs.declared.checkpoint.SignedCheckpoint.{SignedCheckpoin
 use Rattle.sig_rekor.specs.declared.checkpoint.Checkpoint.{Checkpoint}
 use Rattle.sig_rekor.specs.declared.checkpoint.CheckpointSignature.{CheckpointSignature}
 use Rattle.sig_rekor.specs.declared.checkpoint.OtherContent.{OtherContent}
-use Rattle.sig_rekor.specs.Cut.{Lacks}
+use Rattle.sig_rekor.specs.TextCuts.{Lacks}
 use Rattle.sig_rekor.specs.NoteText.{newline, hash_len, is_blank, other_content_of, content_text}
 use Rattle.sig_rekor.specs.SignatureText.{space, fingerprint_len, fingerprint_and_raw}
 use Rattle.sig_rekor.specs.CheckpointText.{quotation_mark}

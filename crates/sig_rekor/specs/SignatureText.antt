@@ -9,7 +9,7 @@ use Rattle.sig_base.specs.declared.fault.CheckpointFault.{CheckpointFault}
 use Rattle.sig_base.specs.declared.fault.CheckpointFault.TheVariants.{NoDash, SignatureFormat, SignatureBase64}
 use Rattle.sig_base.specs.declared.fault.CheckpointFault.TheVariants.{SignatureLength}
 use Rattle.sig_rekor.specs.declared.checkpoint.CheckpointSignature.{CheckpointSignature}
-use Rattle.sig_rekor.specs.Cut.{IsTrimmed, IsParts, trimmed, parts_between}
+use Rattle.sig_rekor.specs.TextCuts.{IsTrimmed, IsParts, trimmed, parts_between}
 use Rattle.sig_base.specs.Base64.{base64_bytes, base64_text}
 use Rattle.sig_rekor.specs.Reading.{base64_of}
 use Rattle.sig_rekor.specs.NoteText.{line_feed, newline}

@@ -1,6 +1,6 @@
 -- Lines that are written as they were read.
 use Rattle.std.specs.Prelude.{◌≢◌, ℕ, List, [], ◌∷◌, ◌++◌}
-use Rattle.sig_rekor.specs.Cut.{Lacks}
+use Rattle.sig_rekor.specs.TextCuts.{Lacks}
 use Rattle.sig_rekor.specs.NoteText.{line_feed}
 use Rattle.sig_rekor.specs.CheckpointText.{empty_line}
 

@@ -30,7 +30,7 @@ pub struct Checkpoint {
 pub struct CheckpointSignature {
     /// The first four bytes of the hash of the key that signed.
     pub key_fingerprint: [u8; 4],
-    /// The signature itself.
+    /// The bytes after the fingerprint: the signature itself.
     pub raw: Bytes,
     /// The name of the key that signed.
     pub name: Text,

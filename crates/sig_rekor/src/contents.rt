@@ -2,13 +2,38 @@
 ghost use Rattle.std.specs.Prelude.{◌≡◌, ◌++◌, [], ◌∷◌, true, IfOk, OnOk, string_bytes};
 ghost use Rattle.std.specs.List.{flat_map};
 ghost use Rattle.sig_rekor.specs.WrittenLines.{AreWritten};
-ghost use Rattle.sig_rekor.specs.Cut.{parts_between};
+ghost use Rattle.sig_rekor.specs.TextCuts.{parts_between};
 ghost use Rattle.sig_rekor.specs.NoteText.{newline, other_content_of, contents_of, content_line};
 
 use crate::checkpoint::{OtherContent, OtherContents};
 use crate::cuts::{cut, trimmed};
 use sig_base::{OutOfMemory, Text};
 use std::alloc::Global;
+
+/// Writes the contents of a text. Lines of which none is empty are what is written of them: they are copied at once.
+#[tactic(auto, using(crate::proofs::WrittenLines::lines_written))]
+pub(crate) fn push_lines(alloc: Global, text: &mut String, lines: &str) -> Result<(), OutOfMemory>
+    ensures { OnOk result (string_bytes text.new ≡ string_bytes text.old ++ flat_map content_line
+        (contents_of (parts_between newline lines.now))) }
+{
+    if are_written(lines) {
+        text.push_str(lines)?;
+        text.push('\n')?;
+        return Ok(());
+    }
+    let contents = read_contents(alloc, lines)?;
+    push_contents(text, contents.as_slice())
+}
+
+/// Whether no line of a text is empty.
+fn are_written(lines: &str) -> bool
+    ensures { result ≡ true → AreWritten lines.now }
+{
+    if lines.is_empty() || trimmed(lines, '\n').len() < lines.len() {
+        return false;
+    }
+    cut(lines, "\n\n").is_none()
+}
 
 /// The contents of a text: what each line that is not empty says.
 #[tactic(auto, using(crate::proofs::Notes::all_contents))]
@@ -74,29 +99,4 @@ fn push_content(text: &mut String, content: &OtherContent) -> Result<(), OutOfMe
     }
     text.push('\n')?;
     Ok(())
-}
-
-/// Writes the contents of a text. Lines of which none is empty are what is written of them: they are copied at once.
-#[tactic(auto, using(crate::proofs::WrittenLines::lines_written))]
-pub(crate) fn push_lines(alloc: Global, text: &mut String, lines: &str) -> Result<(), OutOfMemory>
-    ensures { OnOk result (string_bytes text.new ≡ string_bytes text.old ++ flat_map content_line
-        (contents_of (parts_between newline lines.now))) }
-{
-    if are_written(lines) {
-        text.push_str(lines)?;
-        text.push('\n')?;
-        return Ok(());
-    }
-    let contents = read_contents(alloc, lines)?;
-    push_contents(text, contents.as_slice())
-}
-
-/// Whether no line of a text is empty.
-fn are_written(lines: &str) -> bool
-    ensures { result ≡ true → AreWritten lines.now }
-{
-    if lines.is_empty() || trimmed(lines, '\n').len() < lines.len() {
-        return false;
-    }
-    cut(lines, "\n\n").is_none()
 }

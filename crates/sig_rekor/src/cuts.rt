@@ -1,6 +1,6 @@
 //! Cutting a text at a separator.
 ghost use Rattle.std.specs.Prelude.{◌≡◌, ◌<◌, length, option_map, IfSome};
-ghost use Rattle.sig_rekor.specs.Cut.{cut_at, trimmed as without_marks};
+ghost use Rattle.sig_rekor.specs.TextCuts.{cut_at, trimmed as without_marks};
 ghost use Rattle.sig_rekor.specs.NoteText.{is_blank};
 
 /// What is before and after the first separator, or `None` if there is none.

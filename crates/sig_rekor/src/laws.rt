@@ -128,7 +128,8 @@ pub fn proof_refusals()
 
 /// A text is a hash if and only if it is 64 hexadecimal digits, those of the hash. `HexDecodeError` comes if and only if
 /// it is not the digits of whole bytes, and what the caller says of another length if and only if it is, and has not
-/// 64. Of several texts each is a hash, or the fault of the first that is none is told, with its index. It has no code.
+/// 64. Of several texts each is a hash, or the fault of the first that is not one is told, with its index. It has
+/// no code.
 pub fn hash_texts()
     ensures hash { (other_length : UnexpectedKind) (text hash : List ℕ) →
         (hash_in other_length text ≡ Ok hash) ↔ IsHashOf text hash }

@@ -10,7 +10,7 @@ ghost use Rattle.std.specs.Prelude.{◌≡◌, ◌++◌, ◌∷◌, IfOk, OnOk, 
 ghost use Rattle.base64.specs.GeneralPurpose.{IsBytes};
 ghost use Rattle.sig_base.specs.Base64.{base64_text};
 ghost use Rattle.sig_base.specs.declared.fault.CheckpointFault.TheVariants.{NoteFormat};
-ghost use Rattle.sig_rekor.specs.Cut.{parts_between};
+ghost use Rattle.sig_rekor.specs.TextCuts.{parts_between};
 ghost use Rattle.sig_base.specs.Answers.{Answers};
 ghost use Rattle.sig_rekor.specs.Reading.{as_error};
 ghost use Rattle.sig_rekor.specs.NoteText.{newline, origin_of, tree_size_of, root_hash_of, note_by, note_of, note_text};

@@ -8,7 +8,7 @@ ghost use Rattle.std.specs.Prelude.{◌≡◌, Ok, IfOk, OnOk, option_map};
 ghost use Rattle.std.specs.Option.{ok_or};
 ghost use Rattle.sig_base.specs.declared.fault.CheckpointFault.TheVariants.{SignatureFormat};
 ghost use Rattle.sig_rekor.specs.declared.checkpoint.CheckpointSignature.{CheckpointSignature as Signature};
-ghost use Rattle.sig_rekor.specs.Cut.{parts_between};
+ghost use Rattle.sig_rekor.specs.TextCuts.{parts_between};
 ghost use Rattle.sig_base.specs.Base64.{base64_text};
 ghost use Rattle.sig_base.specs.Answers.{Answers};
 ghost use Rattle.sig_rekor.specs.Reading.{as_error};
@@ -83,24 +83,6 @@ fn read_signature(alloc: Global, text: &str) -> Result<CheckpointSignature, Pars
     make_signature(alloc, name, bytes.as_slice())
 }
 
-/// The signature of a name and of the decoded bytes, at least four.
-fn make_signature(
-    alloc: Global,
-    name: &str,
-    bytes: &[u8],
-) -> Result<CheckpointSignature, ParseCheckpointError>
-    ensures { Answers ParseCheckpointError.OutOfMemory (λ x. x) result (as_error (signature_by name.now bytes.now)) }
-{
-    let Some((fingerprint, raw)) = bytes.split_first_chunk::<4>() else {
-        return Err(ParseCheckpointError::DecodeError(CheckpointFault::SignatureLength));
-    };
-    Ok(CheckpointSignature {
-        key_fingerprint: *fingerprint,
-        raw: Bytes::copy_of(alloc, raw)?,
-        name: Text::copy_of(alloc, name)?,
-    })
-}
-
 /// The line without newlines at its ends, which starts with an em dash.
 #[tactic(auto, using(std::proofs::lemmas::Str::Pattern::starts_text), unfolding(crate::specs::SignatureText::line_of))]
 fn read_line(text: &str) -> Result<&str, ParseCheckpointError>
@@ -126,4 +108,22 @@ fn name_and_bytes(line: &str) -> Option<(&str, &str)>
         Some(_) => None,
         None => Some((name, coded)),
     }
+}
+
+/// The signature of a name and of the decoded bytes, at least four.
+fn make_signature(
+    alloc: Global,
+    name: &str,
+    bytes: &[u8],
+) -> Result<CheckpointSignature, ParseCheckpointError>
+    ensures { Answers ParseCheckpointError.OutOfMemory (λ x. x) result (as_error (signature_by name.now bytes.now)) }
+{
+    let Some((fingerprint, raw)) = bytes.split_first_chunk::<4>() else {
+        return Err(ParseCheckpointError::DecodeError(CheckpointFault::SignatureLength));
+    };
+    Ok(CheckpointSignature {
+        key_fingerprint: *fingerprint,
+        raw: Bytes::copy_of(alloc, raw)?,
+        name: Text::copy_of(alloc, name)?,
+    })
 }

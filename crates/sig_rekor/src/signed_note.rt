@@ -9,7 +9,7 @@
 //! ```
 ghost use Rattle.std.specs.Prelude.{◌≡◌, ◌∷◌, [], Ok, IfOk};
 ghost use Rattle.sig_rekor.specs.declared.checkpoint.SignedCheckpoint.{SignedCheckpoint as Signed};
-ghost use Rattle.sig_rekor.specs.Cut.{parts_between};
+ghost use Rattle.sig_rekor.specs.TextCuts.{parts_between};
 ghost use Rattle.sig_base.specs.Answers.{Answers};
 ghost use Rattle.sig_rekor.specs.Reading.{as_error};
 ghost use Rattle.sig_rekor.specs.NoteText.{note_text};

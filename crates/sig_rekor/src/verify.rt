@@ -38,13 +38,8 @@ impl SignedNote<'_> {
     {
         let note = self.note.marshal(alloc)?;
         let message = note.as_str().as_bytes();
-        check_signatures(
-            alloc,
-            message,
-            self.signatures.as_slice(),
-            rekor_key,
-            checker,
-        )
+        let signatures = self.signatures.as_slice();
+        check_signatures(alloc, message, signatures, rekor_key, checker)
     }
 
     /// Checks that the note is of a proof's tree, whose root and number of leaves these are. It takes no memory.
@@ -82,13 +77,8 @@ impl SignedCheckpoint {
     {
         let note = self.note.marshal(alloc)?;
         let message = note.as_str().as_bytes();
-        check_signatures(
-            alloc,
-            message,
-            self.signatures.as_slice(),
-            rekor_key,
-            checker,
-        )
+        let signatures = self.signatures.as_slice();
+        check_signatures(alloc, message, signatures, rekor_key, checker)
     }
 
     /// Checks that the note is of a proof's tree, as [`SignedNote::is_valid_for_proof`].

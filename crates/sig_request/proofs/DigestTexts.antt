@@ -10,8 +10,8 @@ use Rattle.sig_base.proofs.ResultSteps.{ok_from}
 use Rattle.sig_base.specs.OptionSteps.{◌>>=◌}
 use Rattle.sig_dsse.specs.declared.artifact_digest.ArtifactDigest.{ArtifactDigest}
 use Rattle.sig_dsse.specs.declared.artifact_digest.ArtifactDigest.TheVariants.{Sha256, Sha512}
-use Rattle.sig_rekor.proofs.Cutting.{after_separator-at, after_separator-none, after_separator-some}
-use Rattle.sig_rekor.specs.Cut.{after_separator}
+use Rattle.sig_rekor.proofs.CutLaws.{after_separator-at, after_separator-none, after_separator-some}
+use Rattle.sig_rekor.specs.TextCuts.{after_separator}
 use Rattle.sig_request.specs.DigestText.{IsDigestText, bytes_after, digest_in}
 
 -- what `strip_prefix` leaves

@@ -1,5 +1,5 @@
 pub mod DigestTexts
-pub mod Reading
+pub mod SourceReads
 pub mod RequestTexts
 pub mod PolicyRules
 pub mod Rules

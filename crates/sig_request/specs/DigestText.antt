@@ -6,12 +6,12 @@ use Rattle.std.specs.Result.{result_ok}
 use Rattle.hex.specs.Hex.{decode_sized}
 use Rattle.sig_base.specs.OptionSteps.{◌>>=◌}
 use Rattle.sig_dsse.specs.Digest.{digest_algorithm, digest_bytes}
-use Rattle.sig_dsse.specs.Named.{digest_len}
+use Rattle.sig_dsse.specs.NamedDigest.{digest_len}
 use Rattle.sig_dsse.specs.declared.artifact_digest.ArtifactDigest.{ArtifactDigest}
 use Rattle.sig_dsse.specs.declared.artifact_digest.ArtifactDigest.TheVariants.{Sha256, Sha512}
 use Rattle.sig_json.specs.Data.{Data}
 use Rattle.sig_json.specs.Kinds.{text_of}
-use Rattle.sig_rekor.specs.Cut.{after_separator}
+use Rattle.sig_rekor.specs.TextCuts.{after_separator}
 
 -- the text is the algorithm's name, a colon, and the digest's bytes in hexadecimal digits
 pub record IsDigestText (text : List ℕ) (digest : ArtifactDigest) : Type 0 where

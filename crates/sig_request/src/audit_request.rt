@@ -103,37 +103,6 @@ impl ElementReader for WatchReader {
     }
 }
 
-/// Whether each watched entry is under one of so many heads.
-fn are_under(count: usize, watched: &[Watch]) -> bool
-    ensures { result ≡ are_under count watched.now }
-{
-    watched.iter().all(|watch| watch.head < count)
-}
-
-/// Whether there are so many heads and watched entries as a request may have, and each of these is under one of the
-/// heads.
-fn is_within(heads: &[HeadText], watched: &[Watch]) -> bool
-    ensures { result ≡ is_within heads.now watched.now }
-{
-    let count = heads.len();
-    0 < count
-        && count < MOST_HEADS + 1
-        && watched.len() < MOST_WATCHES + 1
-        && are_under(count, watched)
-}
-
-/// The request, if its lists are as long as they may be, and each watched entry is under one of the heads. Fails with
-/// `Member` if not.
-fn kept_within(request: AuditRequest) -> Result<AuditRequest, MemberError>
-    ensures { Answers MemberError.OutOfMemory (λ request. request) result (or_member (kept_within request)) }
-{
-    if is_within(request.heads.as_slice(), request.watched.as_slice()) {
-        return Ok(request);
-    }
-    drop(request);
-    Err(MemberError::Member)
-}
-
 /// Reads requests of `audit`.
 enum AuditRequestReader {}
 
@@ -159,6 +128,37 @@ impl RequestReader for AuditRequestReader {
             entries: optional::<EntriesReader>(alloc, json, "entries")?,
         })
     }
+}
+
+/// The request, if its lists are as long as they may be, and each watched entry is under one of the heads. Fails with
+/// `Member` if not.
+fn kept_within(request: AuditRequest) -> Result<AuditRequest, MemberError>
+    ensures { Answers MemberError.OutOfMemory (λ request. request) result (or_member (kept_within request)) }
+{
+    if is_within(request.heads.as_slice(), request.watched.as_slice()) {
+        return Ok(request);
+    }
+    drop(request);
+    Err(MemberError::Member)
+}
+
+/// Whether there are so many heads and watched entries as a request may have, and each of these is under one of the
+/// heads.
+fn is_within(heads: &[HeadText], watched: &[Watch]) -> bool
+    ensures { result ≡ is_within heads.now watched.now }
+{
+    let count = heads.len();
+    0 < count
+        && count < MOST_HEADS + 1
+        && watched.len() < MOST_WATCHES + 1
+        && are_under(count, watched)
+}
+
+/// Whether each watched entry is under one of so many heads.
+fn are_under(count: usize, watched: &[Watch]) -> bool
+    ensures { result ≡ are_under count watched.now }
+{
+    watched.iter().all(|watch| watch.head < count)
 }
 
 impl AuditRequest {

@@ -22,6 +22,29 @@ use sig_policy::{
 };
 use std::alloc::Global;
 
+/// Reads rules.
+enum RuleReader {}
+
+impl ElementReader for RuleReader {
+    type Item = LeafPolicy;
+
+    ghost meaning = { rule_of };
+
+    #[tactic(auto, unfolding(crate::specs::Policy::rule_of))]
+    fn read(alloc: Global, json: Json<'_, '_>) -> Result<LeafPolicy, MemberError> {
+        let identity = optional::<TextReader>(alloc, json, "identity")?;
+        let issuer = optional::<TextReader>(alloc, json, "issuer")?;
+        let by_issuer = issuer_policy(alloc, identity, issuer)?;
+        match workflow_policy(alloc, json) {
+            Ok(by_workflow) => exactly_one(by_issuer, by_workflow),
+            Err(error) => {
+                drop(by_issuer);
+                Err(error)
+            }
+        }
+    }
+}
+
 /// The policy of an identity by the word of an issuer, or of an issuer alone; `None` without both. Fails with `Member`
 /// for an identity alone.
 #[tactic(auto, unfolding(crate::specs::Policy::issuer_policy))]
@@ -46,6 +69,38 @@ fn issuer_policy(
             Err(MemberError::Member)
         }
     }
+}
+
+/// The policy of a GitHub workflow, `None` without one. Fails with `Member` if a member is not a text, or two are
+/// there.
+#[tactic(auto, unfolding(crate::specs::Policy::workflow_policy))]
+fn workflow_policy(alloc: Global, json: Json<'_, '_>) -> Result<Option<LeafPolicy>, MemberError>
+    ensures { Answers MemberError.OutOfMemory (λ x. x) result (or_member (workflow_policy (tree json.entry))) }
+{
+    let trigger = optional::<TextReader>(alloc, json, "trigger")?;
+    let sha = optional::<TextReader>(alloc, json, "sha")?;
+    let name = optional::<TextReader>(alloc, json, "name")?;
+    let repository = optional::<TextReader>(alloc, json, "repository")?;
+    let git_ref = optional::<TextReader>(alloc, json, "ref")?;
+    one_of_five(trigger, sha, name, repository, git_ref)
+}
+
+/// The policy of the one text that is there, `None` without one. Fails with `Member` if two are there.
+#[tactic(auto, unfolding(crate::specs::Policy::one_of_five))]
+fn one_of_five(
+    trigger: Option<Text>,
+    sha: Option<Text>,
+    name: Option<Text>,
+    repository: Option<Text>,
+    git_ref: Option<Text>,
+) -> Result<Option<LeafPolicy>, MemberError>
+    ensures { Answers MemberError.OutOfMemory (λ x. x) result
+        (or_member (one_of_five trigger sha name repository git_ref)) }
+{
+    let found = one_at_most(trigger_is(trigger), sha_is(sha))?;
+    let found = one_at_most(found, name_is(name))?;
+    let found = one_at_most(found, repository_is(repository))?;
+    one_at_most(found, ref_is(git_ref))
 }
 
 /// The policy that was found before, or the next, if any. Fails with `Member` if both are there.
@@ -117,38 +172,6 @@ fn ref_is(text: Option<Text>) -> Option<LeafPolicy>
     }
 }
 
-/// The policy of the one text that is there, `None` without one. Fails with `Member` if two are there.
-#[tactic(auto, unfolding(crate::specs::Policy::one_of_five))]
-fn one_of_five(
-    trigger: Option<Text>,
-    sha: Option<Text>,
-    name: Option<Text>,
-    repository: Option<Text>,
-    git_ref: Option<Text>,
-) -> Result<Option<LeafPolicy>, MemberError>
-    ensures { Answers MemberError.OutOfMemory (λ x. x) result
-        (or_member (one_of_five trigger sha name repository git_ref)) }
-{
-    let found = one_at_most(trigger_is(trigger), sha_is(sha))?;
-    let found = one_at_most(found, name_is(name))?;
-    let found = one_at_most(found, repository_is(repository))?;
-    one_at_most(found, ref_is(git_ref))
-}
-
-/// The policy of a GitHub workflow, `None` without one. Fails with `Member` if a member is not a text, or two are
-/// there.
-#[tactic(auto, unfolding(crate::specs::Policy::workflow_policy))]
-fn workflow_policy(alloc: Global, json: Json<'_, '_>) -> Result<Option<LeafPolicy>, MemberError>
-    ensures { Answers MemberError.OutOfMemory (λ x. x) result (or_member (workflow_policy (tree json.entry))) }
-{
-    let trigger = optional::<TextReader>(alloc, json, "trigger")?;
-    let sha = optional::<TextReader>(alloc, json, "sha")?;
-    let name = optional::<TextReader>(alloc, json, "name")?;
-    let repository = optional::<TextReader>(alloc, json, "repository")?;
-    let git_ref = optional::<TextReader>(alloc, json, "ref")?;
-    one_of_five(trigger, sha, name, repository, git_ref)
-}
-
 /// The one policy of both. Fails with `Member` if none or both are there.
 #[tactic(auto, unfolding(crate::specs::Policy::exactly_one, crate::specs::Policy::one_at_most))]
 fn exactly_one(
@@ -161,48 +184,6 @@ fn exactly_one(
         Some(policy) => Ok(policy),
         None => Err(MemberError::Member),
     }
-}
-
-/// Reads rules.
-enum RuleReader {}
-
-impl ElementReader for RuleReader {
-    type Item = LeafPolicy;
-
-    ghost meaning = { rule_of };
-
-    #[tactic(auto, unfolding(crate::specs::Policy::rule_of))]
-    fn read(alloc: Global, json: Json<'_, '_>) -> Result<LeafPolicy, MemberError> {
-        let identity = optional::<TextReader>(alloc, json, "identity")?;
-        let issuer = optional::<TextReader>(alloc, json, "issuer")?;
-        let by_issuer = issuer_policy(alloc, identity, issuer)?;
-        match workflow_policy(alloc, json) {
-            Ok(by_workflow) => exactly_one(by_issuer, by_workflow),
-            Err(error) => {
-                drop(by_issuer);
-                Err(error)
-            }
-        }
-    }
-}
-
-/// The rules under one name, at least one. Fails with `Member` without them, and if the other name has anything.
-#[tactic(auto, unfolding(crate::specs::Policy::rules_under))]
-fn rules_under(
-    alloc: Global,
-    json: Json<'_, '_>,
-    name: &str,
-    other: &str,
-) -> Result<LeafPolicies, MemberError>
-    ensures { Answers MemberError.OutOfMemory (λ x. x) result
-        (or_member (rules_under name.now other.now (tree json.entry))) }
-{
-    let rules = required_list::<RuleReader>(alloc, json, name)?;
-    let _ = optional::<AbsentReader>(alloc, json, other)?;
-    if rules.len() == 0 {
-        return Err(MemberError::Member);
-    }
-    Ok(rules)
 }
 
 /// Reads policies: the rules under `all`, or those under `any`.
@@ -234,4 +215,23 @@ pub fn read_policy(alloc: Global, json: Json<'_, '_>) -> Result<RequestPolicy, M
         }
         Err(MemberError::OutOfMemory) => Err(MemberError::OutOfMemory),
     }
+}
+
+/// The rules under one name, at least one. Fails with `Member` without them, and if the other name has anything.
+#[tactic(auto, unfolding(crate::specs::Policy::rules_under))]
+fn rules_under(
+    alloc: Global,
+    json: Json<'_, '_>,
+    name: &str,
+    other: &str,
+) -> Result<LeafPolicies, MemberError>
+    ensures { Answers MemberError.OutOfMemory (λ x. x) result
+        (or_member (rules_under name.now other.now (tree json.entry))) }
+{
+    let rules = required_list::<RuleReader>(alloc, json, name)?;
+    let _ = optional::<AbsentReader>(alloc, json, other)?;
+    if rules.len() == 0 {
+        return Err(MemberError::Member);
+    }
+    Ok(rules)
 }

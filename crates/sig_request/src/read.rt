@@ -53,7 +53,7 @@ impl From<AllocError> for ReadFault {
 ///
 /// Errors: `TooLong` if and only if 2^24 + 1 bytes were taken; `Failed` only if the source's count of faults rose; out
 /// of memory.
-#[tactic(auto, using(crate::proofs::Reading::turns))]
+#[tactic(auto, using(crate::proofs::SourceReads::turns))]
 pub fn read_request<S: Source>(alloc: Global, source: &mut S) -> Result<Bytes, ReadFault>
     ensures ok { IfOk result (λ bytes. HandsOver (S.left source.old) (S.left source.new) bytes) }
     ensures short { IfOk result (λ bytes. length bytes < most_bytes + 1) }

@@ -23,7 +23,7 @@ use Rattle.sig_request_fault.proofs.RowTables.{and_false, bytes_is, hash_is, sch
 use Rattle.sig_request_fault.specs.AuditTable.{audit_table, head_count, head_table, heads_table, list_count, watch_table}
 use Rattle.sig_request_fault.specs.AuditTable.{watched_table}
 use Rattle.sig_request_fault.specs.RowTable.{scheme_table}
-use Rattle.sig_table.proofs.Sized.{as_many, each_length, sized_of, sized_table}
+use Rattle.sig_table.proofs.SizedLists.{as_many, each_length, sized_of, sized_table}
 use Rattle.sig_table.proofs.TableOf.{beyond_range_table, elements_table, not_required, optional_or_holds, record_is}
 use Rattle.sig_table.proofs.TableOf.{required_holds, step}
 use Rattle.sig_table.specs.Chosen.{is_between}
@@ -67,7 +67,7 @@ watch_under count d = watch_of d >>= kept_under count
 abbrev index_under : ℕ → ℕ → Option ℕ
 index_under count n = if nat_lt n count then Some n else None
 
--- what is behind the index
+-- what comes after the index
 abbrev watch_after : Data → ℕ → Option Watch
 watch_after d head = do
   index ← required u64_of (codes "index") d

@@ -47,27 +47,46 @@ impl MemberTable for HeadsTable {
     }
 }
 
-/// How many heads a request has.
-fn head_count(json: Json<'_, '_>) -> usize
-    ensures { result ≡ head_count (tree json.entry) }
-{
-    match member(json, "heads") {
-        Some(heads) => heads.list_len().unwrap_or(0),
-        None => 0,
+/// The table of requests of `audit`.
+enum AuditTable {}
+
+impl MemberTable for AuditTable {
+    ghost table = { audit_table };
+
+    #[tactic(auto, using(sig_table::proofs::Steps::steps), unfolding(crate::specs::AuditTable::audit_table))]
+    fn check(alloc: Global, json: Json<'_, '_>) -> Result<(), TableError> {
+        object(alloc, json)?;
+        required::<HeadsTable>(alloc, json, "heads")?;
+        watched(alloc, json, head_count(json))?;
+        required::<SchemeTable>(alloc, json, "scheme")?;
+        required::<BytesTable>(alloc, json, "key")?;
+        optional::<AcceptedTable>(alloc, json, "accepted")?;
+        optional::<EntriesTable>(alloc, json, "entries")
     }
 }
 
-/// Checks a watched entry, which is under one of so many heads.
-#[tactic(auto, using(sig_table::proofs::Steps::steps), unfolding(crate::specs::AuditTable::watch_table))]
-fn watch(alloc: Global, json: Json<'_, '_>, count: usize) -> Result<(), TableError>
+/// The row of the watched entries.
+fn watched(alloc: Global, json: Json<'_, '_>, count: usize) -> Result<(), TableError>
     ensures { Answers TableError.OutOfMemory (λ x. x) result
-        (or_fault (fault_of (watch_table count) (tree json.entry))) }
+        (or_fault (row_fault (optional_row (codes "watched") (watched_table count)) (tree json.entry))) }
 {
-    object(alloc, json)?;
-    required_below(alloc, json, "head", count as u64)?;
-    required_u64(alloc, json, "index")?;
-    optional::<ListOf<HashTable>>(alloc, json, "hashes")?;
-    required::<BytesTable>(alloc, json, "entry")
+    match member(json, "watched") {
+        Some(value) => match few_watches(alloc, value, count) {
+            Ok(()) => Ok(()),
+            Err(error) => Err(behind_name(alloc, "watched", error)),
+        },
+        None => Ok(()),
+    }
+}
+
+/// Checks the watched entries, of which there are as many as an audit may have.
+#[tactic(auto, using(sig_table::proofs::Steps::guards), unfolding(crate::specs::AuditTable::watched_table))]
+fn few_watches(alloc: Global, json: Json<'_, '_>, count: usize) -> Result<(), TableError>
+    ensures { Answers TableError.OutOfMemory (λ x. x) result
+        (or_fault (fault_of (watched_table count) (tree json.entry))) }
+{
+    length_between(alloc, json, 0, 4096)?;
+    watches(alloc, json, count)
 }
 
 /// Checks a list of watched entries, each of them under one of so many heads.
@@ -91,45 +110,26 @@ fn watches(alloc: Global, json: Json<'_, '_>, count: usize) -> Result<(), TableE
     Ok(())
 }
 
-/// Checks the watched entries, of which there are as many as an audit may have.
-#[tactic(auto, using(sig_table::proofs::Steps::guards), unfolding(crate::specs::AuditTable::watched_table))]
-fn few_watches(alloc: Global, json: Json<'_, '_>, count: usize) -> Result<(), TableError>
+/// Checks a watched entry, which is under one of so many heads.
+#[tactic(auto, using(sig_table::proofs::Steps::steps), unfolding(crate::specs::AuditTable::watch_table))]
+fn watch(alloc: Global, json: Json<'_, '_>, count: usize) -> Result<(), TableError>
     ensures { Answers TableError.OutOfMemory (λ x. x) result
-        (or_fault (fault_of (watched_table count) (tree json.entry))) }
+        (or_fault (fault_of (watch_table count) (tree json.entry))) }
 {
-    length_between(alloc, json, 0, 4096)?;
-    watches(alloc, json, count)
+    object(alloc, json)?;
+    required_below(alloc, json, "head", count as u64)?;
+    required_u64(alloc, json, "index")?;
+    optional::<ListOf<HashTable>>(alloc, json, "hashes")?;
+    required::<BytesTable>(alloc, json, "entry")
 }
 
-/// The row of the watched entries.
-fn watched(alloc: Global, json: Json<'_, '_>, count: usize) -> Result<(), TableError>
-    ensures { Answers TableError.OutOfMemory (λ x. x) result
-        (or_fault (row_fault (optional_row (codes "watched") (watched_table count)) (tree json.entry))) }
+/// How many heads a request has.
+fn head_count(json: Json<'_, '_>) -> usize
+    ensures { result ≡ head_count (tree json.entry) }
 {
-    match member(json, "watched") {
-        Some(value) => match few_watches(alloc, value, count) {
-            Ok(()) => Ok(()),
-            Err(error) => Err(behind_name(alloc, "watched", error)),
-        },
-        None => Ok(()),
-    }
-}
-
-/// The table of requests of `audit`.
-enum AuditTable {}
-
-impl MemberTable for AuditTable {
-    ghost table = { audit_table };
-
-    #[tactic(auto, using(sig_table::proofs::Steps::steps), unfolding(crate::specs::AuditTable::audit_table))]
-    fn check(alloc: Global, json: Json<'_, '_>) -> Result<(), TableError> {
-        object(alloc, json)?;
-        required::<HeadsTable>(alloc, json, "heads")?;
-        watched(alloc, json, head_count(json))?;
-        required::<SchemeTable>(alloc, json, "scheme")?;
-        required::<BytesTable>(alloc, json, "key")?;
-        optional::<AcceptedTable>(alloc, json, "accepted")?;
-        optional::<EntriesTable>(alloc, json, "entries")
+    match member(json, "heads") {
+        Some(heads) => heads.list_len().unwrap_or(0),
+        None => 0,
     }
 }
 

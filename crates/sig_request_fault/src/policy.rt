@@ -20,6 +20,22 @@ const WORKFLOW: [&str; 5] = ["trigger", "sha", "name", "repository", "ref"];
 /// The members of a policy.
 const POLICY: [&str; 2] = ["all", "any"];
 
+/// The table of rules.
+enum RuleTable {}
+
+impl MemberTable for RuleTable {
+    ghost table = { rule_table };
+
+    #[tactic(auto, unfolding(crate::specs::PolicyTable::rule_table))]
+    fn check(alloc: Global, json: Json<'_, '_>) -> Result<(), TableError> {
+        if asks_workflow(json) {
+            workflow_rule(alloc, json)
+        } else {
+            issuer_rule(alloc, json)
+        }
+    }
+}
+
 /// Whether one of the members about the workflow is there.
 fn asks_workflow(json: Json<'_, '_>) -> bool
     ensures { result ≡ asks_workflow (tree json.entry) }
@@ -29,15 +45,6 @@ fn asks_workflow(json: Json<'_, '_>) -> bool
         || member(json, "name").is_some()
         || member(json, "repository").is_some()
         || member(json, "ref").is_some()
-}
-
-/// The row of the members about the workflow: one at most is there.
-#[tactic(auto, unfolding(crate::specs::PolicyTable::workflow_names))]
-fn one_of_workflow(alloc: Global, json: Json<'_, '_>) -> Result<(), TableError>
-    ensures { Answers TableError.OutOfMemory (λ x. x) result
-        (or_fault (row_fault (oneof_row workflow_names) (tree json.entry))) }
-{
-    at_most_one(alloc, json, &WORKFLOW)
 }
 
 /// A rule about the workflow: one member alone.
@@ -56,6 +63,15 @@ fn workflow_rule(alloc: Global, json: Json<'_, '_>) -> Result<(), TableError>
     optional::<Nothing>(alloc, json, "issuer")
 }
 
+/// The row of the members about the workflow: one at most is there.
+#[tactic(auto, unfolding(crate::specs::PolicyTable::workflow_names))]
+fn one_of_workflow(alloc: Global, json: Json<'_, '_>) -> Result<(), TableError>
+    ensures { Answers TableError.OutOfMemory (λ x. x) result
+        (or_fault (row_fault (oneof_row workflow_names) (tree json.entry))) }
+{
+    at_most_one(alloc, json, &WORKFLOW)
+}
+
 /// A rule about the issuer, with an identity or alone.
 #[tactic(auto, unfolding(crate::specs::PolicyTable::issuer_table))]
 fn issuer_rule(alloc: Global, json: Json<'_, '_>) -> Result<(), TableError>
@@ -64,22 +80,6 @@ fn issuer_rule(alloc: Global, json: Json<'_, '_>) -> Result<(), TableError>
     object(alloc, json)?;
     optional::<TextTable>(alloc, json, "identity")?;
     required::<TextTable>(alloc, json, "issuer")
-}
-
-/// The table of rules.
-enum RuleTable {}
-
-impl MemberTable for RuleTable {
-    ghost table = { rule_table };
-
-    #[tactic(auto, unfolding(crate::specs::PolicyTable::rule_table))]
-    fn check(alloc: Global, json: Json<'_, '_>) -> Result<(), TableError> {
-        if asks_workflow(json) {
-            workflow_rule(alloc, json)
-        } else {
-            issuer_rule(alloc, json)
-        }
-    }
 }
 
 /// The table of lists of at least one rule.
@@ -92,6 +92,22 @@ impl MemberTable for RulesTable {
     fn check(alloc: Global, json: Json<'_, '_>) -> Result<(), TableError> {
         not_empty(alloc, json)?;
         ListOf::<RuleTable>::check(alloc, json)
+    }
+}
+
+/// The table of policies.
+pub enum PolicyTable {}
+
+impl MemberTable for PolicyTable {
+    ghost table = { policy_table };
+
+    #[tactic(auto, unfolding(crate::specs::PolicyTable::policy_table))]
+    fn check(alloc: Global, json: Json<'_, '_>) -> Result<(), TableError> {
+        if member(json, "any").is_some() {
+            any_policy(alloc, json)
+        } else {
+            all_policy(alloc, json)
+        }
     }
 }
 
@@ -113,20 +129,4 @@ fn all_policy(alloc: Global, json: Json<'_, '_>) -> Result<(), TableError>
 {
     object(alloc, json)?;
     required::<RulesTable>(alloc, json, "all")
-}
-
-/// The table of policies.
-pub enum PolicyTable {}
-
-impl MemberTable for PolicyTable {
-    ghost table = { policy_table };
-
-    #[tactic(auto, unfolding(crate::specs::PolicyTable::policy_table))]
-    fn check(alloc: Global, json: Json<'_, '_>) -> Result<(), TableError> {
-        if member(json, "any").is_some() {
-            any_policy(alloc, json)
-        } else {
-            all_policy(alloc, json)
-        }
-    }
 }

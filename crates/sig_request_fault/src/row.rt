@@ -30,20 +30,6 @@ impl MemberTable for SchemeTable {
     }
 }
 
-/// The operation that a value names.
-#[tactic(auto, unfolding(sig_request::specs::Row::operation_kind, sig_json::specs::Kinds::text_of))]
-fn operation_named(json: Json<'_, '_>) -> Option<Operation>
-    ensures { result ≡ operation_kind (tree json.entry) }
-{
-    match json.text() {
-        Some("message") => Some(Operation::Message),
-        Some("prehash") => Some(Operation::Prehash),
-        Some("point") => Some(Operation::Point),
-        Some("certificate") => Some(Operation::Certificate),
-        _ => None,
-    }
-}
-
 /// The table of names of operations.
 enum OperationTable {}
 
@@ -59,27 +45,17 @@ impl MemberTable for OperationTable {
     }
 }
 
-/// The operation of an accepted signature.
-fn operation_in(json: Json<'_, '_>) -> Option<Operation>
-    ensures { result ≡ operation_in (tree json.entry) }
+/// The operation that a value names.
+#[tactic(auto, unfolding(sig_request::specs::Row::operation_kind, sig_json::specs::Kinds::text_of))]
+fn operation_named(json: Json<'_, '_>) -> Option<Operation>
+    ensures { result ≡ operation_kind (tree json.entry) }
 {
-    match member(json, "operation") {
-        Some(value) => operation_named(value),
-        None => None,
-    }
-}
-
-/// The row of the scheme of an accepted signature.
-fn scheme(alloc: Global, json: Json<'_, '_>, operation: Option<Operation>) -> Result<(), TableError>
-    ensures { Answers TableError.OutOfMemory (λ x. x) result
-        (or_fault (row_fault (scheme_row operation) (tree json.entry))) }
-{
-    match operation {
-        Some(Operation::Message | Operation::Prehash) => {
-            required::<SchemeTable>(alloc, json, "scheme")
-        }
-        Some(Operation::Certificate) => required::<BytesTable>(alloc, json, "scheme"),
-        Some(Operation::Point) | None => optional::<Nothing>(alloc, json, "scheme"),
+    match json.text() {
+        Some("message") => Some(Operation::Message),
+        Some("prehash") => Some(Operation::Prehash),
+        Some("point") => Some(Operation::Point),
+        Some("certificate") => Some(Operation::Certificate),
+        _ => None,
     }
 }
 
@@ -97,6 +73,30 @@ impl MemberTable for RowTable {
         required::<BytesTable>(alloc, json, "key")?;
         required::<BytesTable>(alloc, json, "message")?;
         required::<BytesTable>(alloc, json, "signature")
+    }
+}
+
+/// The row of the scheme of an accepted signature.
+fn scheme(alloc: Global, json: Json<'_, '_>, operation: Option<Operation>) -> Result<(), TableError>
+    ensures { Answers TableError.OutOfMemory (λ x. x) result
+        (or_fault (row_fault (scheme_row operation) (tree json.entry))) }
+{
+    match operation {
+        Some(Operation::Message | Operation::Prehash) => {
+            required::<SchemeTable>(alloc, json, "scheme")
+        }
+        Some(Operation::Certificate) => required::<BytesTable>(alloc, json, "scheme"),
+        Some(Operation::Point) | None => optional::<Nothing>(alloc, json, "scheme"),
+    }
+}
+
+/// The operation of an accepted signature.
+fn operation_in(json: Json<'_, '_>) -> Option<Operation>
+    ensures { result ≡ operation_in (tree json.entry) }
+{
+    match member(json, "operation") {
+        Some(value) => operation_named(value),
+        None => None,
     }
 }
 

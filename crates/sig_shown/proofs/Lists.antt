@@ -1,8 +1,8 @@
 -- Lists that are written element by element.
 use Rattle.std.proofs.Common.{◌≡◌, ℕ, ◌<◌, ◌+◌, List, [], ◌∷◌, ◌++◌, length, take, get_or, sym, ap, ◌∙◌}
 use Rattle.std.proofs.lemmas.List.{take_more}
-use Rattle.sig_bundle.proofs.Lists.{list_tree-append}
-use Rattle.sig_bundle.specs.Written.{list_tree}
+use Rattle.sig_json.proofs.WrittenLists.{list_tree-append}
+use Rattle.sig_json.specs.Writing.{list_tree}
 use Rattle.sig_json.specs.Builders.{with_last}
 use Rattle.sig_json.specs.Data.{Data}
 

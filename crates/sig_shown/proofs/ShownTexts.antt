@@ -4,7 +4,7 @@ use Rattle.std.proofs.lemmas.Bool.{cases_lt, le-leb, lt-leb, lt-ltb, le-ltb}
 use Rattle.std.specs.Fmt.{is_char_start}
 use Rattle.std.specs.Fmt.Cut.{floor_char_boundary}
 use Rattle.std.specs.Prelude.{IsCharBoundary}
-use Rattle.sig_shown.specs.Shown.{most_shown, shown}
+use Rattle.sig_shown.specs.ShownValues.{most_shown, shown}
 
 -- the last boundary of characters up to an index
 pub record IsLastBoundary (text : List ℕ) (most kept : ℕ) : Type 0 where

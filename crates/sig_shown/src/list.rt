@@ -1,13 +1,12 @@
 //! Lists, element by element.
 ghost use Rattle.std.specs.Prelude.{◌≡◌, IfOk, List, take};
-ghost use Rattle.sig_bundle.specs.Written.{list_tree, members};
+ghost use Rattle.sig_json.specs.Writing.{list_tree, members};
 ghost use Rattle.sig_json.specs.Data.{Data, put, string};
 ghost use Rattle.sig_json.specs.Tree.{document_tree};
-ghost use Rattle.sig_shown.specs.Shown.{count_tree};
+ghost use Rattle.sig_shown.specs.ShownValues.{count_tree};
 
 use sig_base::{OutOfMemory, Text};
-use sig_bundle::Object;
-use sig_json::Document;
+use sig_json::{Document, Object};
 use std::alloc::Global;
 
 /// How one kind of value is shown as an element of a list.
@@ -44,7 +43,7 @@ impl Shown for ShownCount {
 
     ghost tree = { count_tree };
 
-    #[tactic(auto, unfolding(crate::specs::Shown::count_tree))]
+    #[tactic(auto, unfolding(crate::specs::ShownValues::count_tree))]
     fn show(alloc: Global, item: &usize) -> Result<Document, OutOfMemory> {
         let count = *item;
         let text = format!(in alloc; "{count}")?;
@@ -62,17 +61,6 @@ pub fn first<T>(items: &[T], most: usize) -> &[T]
     &items[..most]
 }
 
-/// A list. Fails only if out of memory.
-fn list_document<T: Shown>(alloc: Global, items: &[T::Item]) -> Result<Document, OutOfMemory>
-    ensures { IfOk result (λ document. document_tree document ≡ list_tree T.tree items.now) }
-{
-    let mut list = Document::list(alloc);
-    'items: for item in items {
-        list.push(T::show(alloc, item)?)?;
-    }
-    Ok(list)
-}
-
 /// The object with a list as a member. Fails only if out of memory.
 pub fn with_list<T: Shown>(
     object: Object,
@@ -84,4 +72,15 @@ pub fn with_list<T: Shown>(
 {
     let value = list_document::<T>(alloc, items)?;
     object.with(alloc, name, value)
+}
+
+/// A list. Fails only if out of memory.
+fn list_document<T: Shown>(alloc: Global, items: &[T::Item]) -> Result<Document, OutOfMemory>
+    ensures { IfOk result (λ document. document_tree document ≡ list_tree T.tree items.now) }
+{
+    let mut list = Document::list(alloc);
+    'items: for item in items {
+        list.push(T::show(alloc, item)?)?;
+    }
+    Ok(list)
 }

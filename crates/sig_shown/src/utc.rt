@@ -19,6 +19,33 @@ const LAST_SECOND: i64 = 253_402_300_799;
 /// The days from -9999-01-01 to 0001-01-01.
 const FIRST_DAY: u32 = 3_652_425;
 
+/// A second since 1970 as a text of RFC 3339 section 5.6, in UTC: YYYY-MM-DDTHH:MM:SSZ. `None` if and only if its year is
+/// not one of 1 to 9999. Fails only if out of memory.
+#[tactic(auto, using(crate::proofs::UtcTexts::utc_texts))]
+pub(crate) fn utc_text(alloc: Global, second: &i64) -> Result<Option<Text>, OutOfMemory>
+    ensures text { IfOk result (λ text. text ≡ utc_text second.now) }
+    // The text names an instant of that second, and no other.
+    ensures instant { IfOk result (λ text. IfSome text (λ text. IsInstantOf text second.now)) }
+{
+    if *second < FIRST_SECOND || *second > LAST_SECOND {
+        return Ok(None);
+    }
+    Ok(Some(written(alloc, second)?))
+}
+
+/// A second of the years 1 to 9999 as a text.
+fn written(alloc: Global, second: &i64) -> Result<Text, OutOfMemory>
+    requires low { first_second ≤ℤ second.now }
+    requires high { second.now ≤ℤ last_second }
+    ensures text { IfOk result (λ text. text ≡ second_text second.now) }
+    ensures instant { IfOk result (λ text. IsInstantOf text second.now) }
+{
+    let moment = moment_after(since_first(second));
+    let text = DateTimePrinter::new().datetime_text(moment);
+    let text = text.as_str();
+    Ok(Text::from(format!(in alloc; "{text}Z")?))
+}
+
 /// The date and the time of day so many seconds after 0001-01-01T00:00:00.
 fn moment_after(since: u64) -> DateTime
     requires { since < 315_537_897_600 }
@@ -41,31 +68,4 @@ fn since_first(second: &i64) -> u64
     ensures below { result < 315_537_897_600 }
 {
     (*second - FIRST_SECOND) as u64
-}
-
-/// A second of the years 1 to 9999 as a text.
-fn written(alloc: Global, second: &i64) -> Result<Text, OutOfMemory>
-    requires low { first_second ≤ℤ second.now }
-    requires high { second.now ≤ℤ last_second }
-    ensures text { IfOk result (λ text. text ≡ second_text second.now) }
-    ensures instant { IfOk result (λ text. IsInstantOf text second.now) }
-{
-    let moment = moment_after(since_first(second));
-    let text = DateTimePrinter::new().datetime_text(moment);
-    let text = text.as_str();
-    Ok(Text::from(format!(in alloc; "{text}Z")?))
-}
-
-/// A second since 1970 as a text of RFC 3339 section 5.6, in UTC: YYYY-MM-DDTHH:MM:SSZ. `None` if and only if its year is
-/// not one of 1 to 9999. Fails only if out of memory.
-#[tactic(auto, using(crate::proofs::UtcTexts::utc_texts))]
-pub(crate) fn utc_text(alloc: Global, second: &i64) -> Result<Option<Text>, OutOfMemory>
-    ensures text { IfOk result (λ text. text ≡ utc_text second.now) }
-    // The text names an instant of that second, and no other.
-    ensures instant { IfOk result (λ text. IfSome text (λ text. IsInstantOf text second.now)) }
-{
-    if *second < FIRST_SECOND || *second > LAST_SECOND {
-        return Ok(None);
-    }
-    Ok(Some(written(alloc, second)?))
 }

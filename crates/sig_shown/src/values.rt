@@ -1,28 +1,18 @@
 //! Members of an object that show a value: a number, or a text, which is cut if it is long.
 ghost use Rattle.std.specs.Prelude.{◌≡◌, IfOk, option_map};
-ghost use Rattle.sig_bundle.specs.Written.{integer_tree, members, members_into};
+ghost use Rattle.sig_json.specs.Writing.{integer_tree, members, members_into};
 ghost use Rattle.sig_json.specs.Data.{put};
-ghost use Rattle.sig_shown.specs.Shown.{count_tree, sha256_tree, shown, shown_rows, some_rows};
+ghost use Rattle.sig_shown.specs.ShownValues.{count_tree, sha256_tree, shown, shown_rows, some_rows};
 
 use sig_base::{OutOfMemory, sha256};
-use sig_bundle::Object;
+use sig_json::Object;
 use std::alloc::Global;
 
 /// How many bytes of a text are shown at most.
 pub const MOST_SHOWN: usize = 4096;
 
-/// The text, or as many of its first characters as have at most [`MOST_SHOWN`] bytes.
-fn shown(text: &str) -> &str
-    ensures { result.now ≡ shown text.now }
-{
-    if text.len() <= MOST_SHOWN {
-        return text;
-    }
-    text.split_at(text.floor_char_boundary(MOST_SHOWN)).0
-}
-
 /// The object with a number as a member. Fails only if out of memory.
-#[tactic(auto, unfolding(crate::specs::Shown::count_tree))]
+#[tactic(auto, unfolding(crate::specs::ShownValues::count_tree))]
 pub fn with_count(
     object: Object,
     alloc: Global,
@@ -37,7 +27,7 @@ pub fn with_count(
 
 /// The object with a number that may be negative as a member. Fails only if out of memory. The number is passed by
 /// reference, so that the clause names it as the field that it is.
-#[tactic(auto, unfolding(sig_bundle::specs::Written::integer_tree))]
+#[tactic(auto, unfolding(sig_json::specs::Writing::integer_tree))]
 pub fn with_integer(
     object: Object,
     alloc: Global,
@@ -53,7 +43,7 @@ pub fn with_integer(
 
 /// The object with a text as a member, of at most [`MOST_SHOWN`] bytes; if the text has more, the member of the second
 /// name has their number. Fails only if out of memory.
-#[tactic(auto, unfolding(crate::specs::Shown::cut_length))]
+#[tactic(auto, unfolding(crate::specs::ShownValues::cut_length))]
 pub fn with_shown(
     object: Object,
     alloc: Global,
@@ -69,6 +59,16 @@ pub fn with_shown(
         return Ok(object);
     }
     with_count(object, alloc, length_name, text.len() as u64)
+}
+
+/// The text, or as many of its first characters as have at most [`MOST_SHOWN`] bytes.
+fn shown(text: &str) -> &str
+    ensures { result.now ≡ shown text.now }
+{
+    if text.len() <= MOST_SHOWN {
+        return text;
+    }
+    text.split_at(text.floor_char_boundary(MOST_SHOWN)).0
 }
 
 /// The object with a text as a member, as by [`with_shown`], if there is one. Fails only if out of memory.
@@ -89,7 +89,7 @@ pub fn with_some(
 }
 
 /// The object with the SHA-256 of bytes as a member, in hexadecimal. Fails only if out of memory.
-#[tactic(auto, unfolding(crate::specs::Shown::sha256_tree))]
+#[tactic(auto, unfolding(crate::specs::ShownValues::sha256_tree))]
 pub fn with_sha256(
     object: Object,
     alloc: Global,

@@ -1,4 +1,4 @@
-mod Issuing
+mod PoolAnswers
 mod Signers
 mod Subjects
 mod ComparedLaws

@@ -17,7 +17,8 @@ use Rattle.sig_der.specs.ObjectIdentifiers.{subject_alternative_name}
 use Rattle.sig_policy.proofs.SingleLaws.{utf8_is}
 use Rattle.sig_policy.proofs.Utf8Laws.{utf8_some}
 use Rattle.sig_policy.specs.Texts.{utf8_text}
-use Rattle.sig_signer.specs.Named.{HasNames, HasNoNames, HasSubject, IsFirstSubject, IsNobody, IsSubject, NamesNobody}
+use Rattle.sig_signer.specs.NamedSubject.{HasNames, HasNoNames, HasSubject, IsFirstSubject, IsNobody, IsSubject}
+use Rattle.sig_signer.specs.NamedSubject.{NamesNobody}
 use Rattle.sig_signer.specs.Subject.{first_subject, names_in, only_names, subject_answer, subject_in, subject_of_names}
 use Rattle.sig_signer.specs.declared.subject.CertificateSubject.{CertificateSubject}
 use Rattle.sig_signer.specs.declared.subject.CertificateSubject.TheVariants.{Email as ByEmail, Uri as ByUri}

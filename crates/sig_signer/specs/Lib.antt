@@ -1,6 +1,6 @@
 pub mod Subject
-pub mod Named
+pub mod NamedSubject
 pub mod Claims
 pub mod Signer
-pub mod Shown
+pub mod ShownSigner
 pub mod Compared

@@ -24,15 +24,15 @@ pub struct CertificateSignature {
     pub subject: CertificateSubject,
     /// Who says so: the issuer of the token that the certificate was issued for.
     pub issuer: Option<Text>,
-    /// The trigger of the GitHub workflow.
+    /// What triggered the GitHub workflow (1.3.6.1.4.1.57264.1.2).
     pub github_workflow_trigger: Option<Text>,
-    /// The commit that the GitHub workflow ran at.
+    /// The commit that the GitHub workflow ran at (1.3.6.1.4.1.57264.1.3).
     pub github_workflow_sha: Option<Text>,
-    /// The name of the GitHub workflow.
+    /// The name of the GitHub workflow (1.3.6.1.4.1.57264.1.4).
     pub github_workflow_name: Option<Text>,
-    /// The repository of the GitHub workflow.
+    /// The repository of the GitHub workflow (1.3.6.1.4.1.57264.1.5).
     pub github_workflow_repository: Option<Text>,
-    /// The ref that the GitHub workflow ran at.
+    /// The ref that the GitHub workflow ran at (1.3.6.1.4.1.57264.1.6).
     pub github_workflow_ref: Option<Text>,
 }
 
@@ -128,17 +128,6 @@ pub fn pool_error(error: PoolError) -> SigstoreError
     }
 }
 
-/// The key of a certificate.
-fn certified_key(alloc: Global, spki: &[u8]) -> Result<CosignVerificationKey>
-    ensures { Answers Memory key_parts result (certified_key spki.now) }
-{
-    match CosignVerificationKey::try_from_spki(alloc, spki) {
-        Ok(key) => Ok(key),
-        Err(SigstoreError::OutOfMemory) => Err(SigstoreError::OutOfMemory),
-        Err(_) => Err(SigstoreError::X509Error),
-    }
-}
-
 /// Key, subject and claims of a certificate.
 #[tactic(auto, unfolding(crate::specs::Signer::certified_answer))]
 fn certified(alloc: Global, certificate: &Certificate) -> Result<CertificateSignature>
@@ -157,4 +146,15 @@ fn certified(alloc: Global, certificate: &Certificate) -> Result<CertificateSign
         github_workflow_repository: claims.workflow.repository,
         github_workflow_ref: claims.workflow.reference,
     })
+}
+
+/// The key of a certificate.
+fn certified_key(alloc: Global, spki: &[u8]) -> Result<CosignVerificationKey>
+    ensures { Answers Memory key_parts result (certified_key spki.now) }
+{
+    match CosignVerificationKey::try_from_spki(alloc, spki) {
+        Ok(key) => Ok(key),
+        Err(SigstoreError::OutOfMemory) => Err(SigstoreError::OutOfMemory),
+        Err(_) => Err(SigstoreError::X509Error),
+    }
 }

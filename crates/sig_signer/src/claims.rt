@@ -28,27 +28,17 @@ pub(crate) struct Workflow {
     pub(crate) reference: Option<Text>,
 }
 
-/// Returns the text that the bytes are. `None` if they are not UTF-8.
-#[tactic(auto, using(sig_policy::proofs::Utf8Laws::utf8_some, sig_policy::proofs::Utf8Laws::utf8_none))]
-pub(crate) fn utf8_text(bytes: &[u8]) -> Option<&str>
-    ensures { option_map (λ t. t.now) result ≡ utf8_text bytes.now }
+/// The claims of a certificate. Fails with `X509Error` if a text is not UTF-8.
+#[tactic(auto, unfolding(crate::specs::Claims::claims_answer))]
+pub(crate) fn read_claims(alloc: Global, certificate: &Certificate) -> Result<Claims>
+    ensures { Answers Memory (λ claims. claims) result (claims_answer certificate.now) }
 {
-    match std::str::from_utf8(bytes) {
-        Ok(text) => Some(text),
-        Err(_) => None,
-    }
-}
-
-/// The first extension of this object identifier.
-fn first_extension<'a>(certificate: &'a Certificate, oid: &[u8]) -> Option<ExtensionRef<'a>>
-    ensures { option_map borrowed_extension result ≡ first_of (with_oid oid.now certificate.now.extensions) }
-{
-    'extensions: for extension in certificate.extensions() {
-        if extension.oid == oid {
-            return Some(extension);
-        }
-    }
-    None
+    Ok(Claims {
+        issuer: claim(alloc, certificate, oid::FULCIO_ISSUER)?,
+        trigger: claim(alloc, certificate, oid::FULCIO_TRIGGER)?,
+        sha: claim(alloc, certificate, oid::FULCIO_SHA)?,
+        workflow: read_workflow(alloc, certificate)?,
+    })
 }
 
 /// The text of the first extension of this object identifier. Fails with `X509Error` if it is not UTF-8.
@@ -64,6 +54,29 @@ fn claim(alloc: Global, certificate: &Certificate, oid: &[u8]) -> Result<Option<
     }
 }
 
+/// The first extension of this object identifier.
+fn first_extension<'a>(certificate: &'a Certificate, oid: &[u8]) -> Option<ExtensionRef<'a>>
+    ensures { option_map borrowed_extension result ≡ first_of (with_oid oid.now certificate.now.extensions) }
+{
+    'extensions: for extension in certificate.extensions() {
+        if extension.oid == oid {
+            return Some(extension);
+        }
+    }
+    None
+}
+
+/// Returns the text that the bytes are. `None` if they are not UTF-8.
+#[tactic(auto, using(sig_policy::proofs::Utf8Laws::utf8_some, sig_policy::proofs::Utf8Laws::utf8_none))]
+pub(crate) fn utf8_text(bytes: &[u8]) -> Option<&str>
+    ensures { option_map (λ t. t.now) result ≡ utf8_text bytes.now }
+{
+    match std::str::from_utf8(bytes) {
+        Ok(text) => Some(text),
+        Err(_) => None,
+    }
+}
+
 /// The workflow of a certificate. Fails with `X509Error` if a text is not UTF-8.
 #[tactic(auto, unfolding(crate::specs::Claims::workflow_answer))]
 fn read_workflow(alloc: Global, certificate: &Certificate) -> Result<Workflow>
@@ -73,18 +86,5 @@ fn read_workflow(alloc: Global, certificate: &Certificate) -> Result<Workflow>
         name: claim(alloc, certificate, oid::FULCIO_NAME)?,
         repository: claim(alloc, certificate, oid::FULCIO_REPOSITORY)?,
         reference: claim(alloc, certificate, oid::FULCIO_REF)?,
-    })
-}
-
-/// The claims of a certificate. Fails with `X509Error` if a text is not UTF-8.
-#[tactic(auto, unfolding(crate::specs::Claims::claims_answer))]
-pub(crate) fn read_claims(alloc: Global, certificate: &Certificate) -> Result<Claims>
-    ensures { Answers Memory (λ claims. claims) result (claims_answer certificate.now) }
-{
-    Ok(Claims {
-        issuer: claim(alloc, certificate, oid::FULCIO_ISSUER)?,
-        trigger: claim(alloc, certificate, oid::FULCIO_TRIGGER)?,
-        sha: claim(alloc, certificate, oid::FULCIO_SHA)?,
-        workflow: read_workflow(alloc, certificate)?,
     })
 }

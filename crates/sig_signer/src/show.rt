@@ -10,8 +10,9 @@
 //! ```
 ghost use Rattle.std.specs.Fmt.{WritesOnOk};
 ghost use Rattle.std.specs.Prelude.{Some};
-ghost use Rattle.sig_signer.specs.Shown.{claim_text, line_text, named_text, person_text, signer_text, source_text};
-ghost use Rattle.sig_signer.specs.Shown.{subject_text, trigger_text};
+ghost use Rattle.sig_signer.specs.ShownSigner.{claim_text, line_text, named_text, person_text, signer_text};
+ghost use Rattle.sig_signer.specs.ShownSigner.{source_text};
+ghost use Rattle.sig_signer.specs.ShownSigner.{subject_text, trigger_text};
 ghost use Rattle.sig_signer.specs.Signer.{seen_signer};
 
 use crate::certificate_signature::CertificateSignature;

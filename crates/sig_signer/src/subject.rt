@@ -8,7 +8,7 @@ ghost use Rattle.sig_base.specs.declared.error.SigstoreError.TheVariants.{Certif
 ghost use Rattle.sig_certificate.specs.BorrowedNames.{borrowed_name, names_left};
 ghost use Rattle.sig_policy.specs.Texts.{utf8_text};
 ghost use Rattle.sig_signer.specs.Subject.{first_subject, subject_answer, subject_in};
-ghost use Rattle.sig_signer.specs.Named.{HasSubject, HasNoNames, NamesNobody};
+ghost use Rattle.sig_signer.specs.NamedSubject.{HasSubject, HasNoNames, NamesNobody};
 ghost use Rattle.sig_signer.specs.declared.subject.CertificateSubject.{CertificateSubject as subject_type};
 
 use crate::claims::utf8_text;

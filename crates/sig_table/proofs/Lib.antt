@@ -1,7 +1,7 @@
 pub mod Elements
 pub mod Faults
 pub mod Integers
-pub mod Sized
+pub mod SizedLists
 pub mod Steps
 pub mod TableOf
 pub mod TextFaults

@@ -16,7 +16,7 @@ use Rattle.sig_table.specs.declared.path.Step.TheVariants.{Name, Index}
 abbrev pub Breaks : Type 1
 Breaks = Data → List Step → Cause → Type 0
 
--- the path begins with this step, and behind it something is wrong with the value
+-- the path begins with this step, and after it something is wrong with the value
 abbrev pub Behind : Step → Breaks → Breaks
 Behind step Inside d path cause = (rest : List Step) × (path ≡ step ∷ rest) × Inside d rest cause
 

@@ -5,7 +5,7 @@ use Rattle.std.specs.List.{flat_map}
 use Rattle.sig_table.specs.declared.path.Step.{Step}
 use Rattle.sig_table.specs.declared.path.Step.TheVariants.{Name, Index}
 
--- a step behind others: a point and the name, or the index in brackets
+-- a step after others: a point and the name, or the index in brackets
 abbrev pub step_text : Step → List ℕ
 step_text (Name name) = codes "." ++ name
 step_text (Index index) = codes "[" ++ (decimal index ++ codes "]")

@@ -16,19 +16,41 @@ use crate::table::{behind_name, fault_here};
 use sig_json::{Json, read_i64, read_u64};
 use std::alloc::Global;
 
-/// Whether every byte is a digit.
-fn all_digits(bytes: &[u8]) -> bool
-    ensures { result ≡ list_all is_ascii_digit bytes.now }
+/// An optional integer from -2^63 to 2^63 - 1: a member of an object. Fails with `Fault` if the member is there and is
+/// not such an integer.
+#[tactic(auto, using(crate::proofs::Integers::integers))]
+pub fn optional_i64(alloc: Global, json: Json<'_, '_>, name: &str) -> Result<(), TableError>
+    ensures { Answers TableError.OutOfMemory (λ x. x) result
+        (or_fault (row_fault (optional_row name.now i64_table) (tree json.entry))) }
 {
-    bytes.iter().all(|byte| byte.is_ascii_digit())
+    match member(json, name) {
+        Some(value) => row_of(alloc, name, value, read_i64(json, name).is_ok()),
+        None => Ok(()),
+    }
 }
 
-/// Whether the bytes are digits, one or more.
-#[tactic(auto, unfolding(sig_json::specs::Integer::natural_text))]
-fn are_digits(bytes: &[u8]) -> bool
-    ensures { result ≡ is_some (natural_text bytes.now) }
+/// What the row of an integer returns whose member is this value, and is read or not.
+fn row_of(alloc: Global, name: &str, value: Json<'_, '_>, is_read: bool) -> Result<(), TableError>
+    ensures { Answers TableError.OutOfMemory (λ x. x) result (or_fault (at_name name.now
+        (option_map here (unless is_read (not_in_range (integer_of (tree value.entry))))))) }
 {
-    all_digits(bytes) && !bytes.is_empty()
+    if is_read {
+        return Ok(());
+    }
+    Err(behind_name(alloc, name, fault_here(alloc, integer_cause(value))))
+}
+
+/// What is wrong with a value that is not an integer of the range of a kind.
+fn integer_cause(json: Json<'_, '_>) -> Cause
+    ensures { result ≡ not_in_range (integer_of (tree json.entry)) }
+{
+    if json.integer().is_some() {
+        return Cause::BeyondRange;
+    }
+    match json.text() {
+        Some(text) if is_integer_text(text.as_bytes()) => Cause::BeyondRange,
+        _ => Cause::OtherKind,
+    }
 }
 
 /// Whether the bytes are an integer: an optional `-` and digits.
@@ -46,41 +68,19 @@ fn is_integer_text(bytes: &[u8]) -> bool
     }
 }
 
-/// What is wrong with a value that is not an integer of the range of a kind.
-fn integer_cause(json: Json<'_, '_>) -> Cause
-    ensures { result ≡ not_in_range (integer_of (tree json.entry)) }
+/// Whether the bytes are digits, one or more.
+#[tactic(auto, unfolding(sig_json::specs::Integer::natural_text))]
+fn are_digits(bytes: &[u8]) -> bool
+    ensures { result ≡ is_some (natural_text bytes.now) }
 {
-    if json.integer().is_some() {
-        return Cause::BeyondRange;
-    }
-    match json.text() {
-        Some(text) if is_integer_text(text.as_bytes()) => Cause::BeyondRange,
-        _ => Cause::OtherKind,
-    }
+    all_digits(bytes) && !bytes.is_empty()
 }
 
-/// What the row of an integer returns whose member is this value, and is read or not.
-fn row_of(alloc: Global, name: &str, value: Json<'_, '_>, is_read: bool) -> Result<(), TableError>
-    ensures { Answers TableError.OutOfMemory (λ x. x) result (or_fault (at_name name.now
-        (option_map here (unless is_read (not_in_range (integer_of (tree value.entry))))))) }
+/// Whether every byte is a digit.
+fn all_digits(bytes: &[u8]) -> bool
+    ensures { result ≡ list_all is_ascii_digit bytes.now }
 {
-    if is_read {
-        return Ok(());
-    }
-    Err(behind_name(alloc, name, fault_here(alloc, integer_cause(value))))
-}
-
-/// An optional integer from -2^63 to 2^63 - 1: a member of an object. Fails with `Fault` if the member is there and is
-/// not such an integer.
-#[tactic(auto, using(crate::proofs::Integers::integers))]
-pub fn optional_i64(alloc: Global, json: Json<'_, '_>, name: &str) -> Result<(), TableError>
-    ensures { Answers TableError.OutOfMemory (λ x. x) result
-        (or_fault (row_fault (optional_row name.now i64_table) (tree json.entry))) }
-{
-    match member(json, name) {
-        Some(value) => row_of(alloc, name, value, read_i64(json, name).is_ok()),
-        None => Ok(()),
-    }
+    bytes.iter().all(|byte| byte.is_ascii_digit())
 }
 
 /// A required integer from -2^63 to 2^63 - 1: a member of an object. Fails with `Fault` if the member is absent, null, or
@@ -109,18 +109,6 @@ pub fn required_u64(alloc: Global, json: Json<'_, '_>, name: &str) -> Result<(),
     }
 }
 
-/// Whether a member of an object is an integer from 0 to below this one.
-#[tactic(auto, using(crate::proofs::Integers::integers))]
-fn is_below(json: Json<'_, '_>, name: &str, end: u64) -> bool
-    ensures { (value : Data) → member_in name.now (tree json.entry) ≡ Some value
-        → result ≡ is_some (below end value) }
-{
-    match read_u64(json, name) {
-        Ok(number) => number < end,
-        Err(_) => false,
-    }
-}
-
 /// A required integer from 0 to below `end`: a member of an object. Fails with `Fault` if the member is absent, null, or
 /// not such an integer.
 pub fn required_below(
@@ -135,5 +123,17 @@ pub fn required_below(
     match member(json, name) {
         Some(value) => row_of(alloc, name, value, is_below(json, name, end)),
         None => Err(behind_name(alloc, name, fault_here(alloc, Cause::Absent))),
+    }
+}
+
+/// Whether a member of an object is an integer from 0 to below this one.
+#[tactic(auto, using(crate::proofs::Integers::integers))]
+fn is_below(json: Json<'_, '_>, name: &str, end: u64) -> bool
+    ensures { (value : Data) → member_in name.now (tree json.entry) ≡ Some value
+        → result ≡ is_some (below end value) }
+{
+    match read_u64(json, name) {
+        Ok(number) => number < end,
+        Err(_) => false,
     }
 }

@@ -34,7 +34,17 @@ pub fn fault_here(alloc: Global, cause: Cause) -> TableError
     })
 }
 
-/// The same error, where what is wrong is behind this step.
+/// What the check of an object fails with where that of the member of this name fails so.
+pub fn behind_name(alloc: Global, name: &str, error: TableError) -> TableError
+    ensures { OrMemory TableError.OutOfMemory result (result ≡ error_under (Name name.now) error) }
+{
+    match Text::copy_of(alloc, name) {
+        Ok(name) => behind(error, Step::Name(name)),
+        Err(_) => TableError::OutOfMemory,
+    }
+}
+
+/// The same error, with this step put before its path.
 fn behind(error: TableError, step: Step) -> TableError
     ensures { OrMemory TableError.OutOfMemory result (result ≡ error_under step error) }
 {
@@ -43,16 +53,6 @@ fn behind(error: TableError, step: Step) -> TableError
     };
     match fault.path.put_in_front(step) {
         Ok(()) => TableError::Fault(fault),
-        Err(_) => TableError::OutOfMemory,
-    }
-}
-
-/// What the check of an object fails with where that of the member of this name fails so.
-pub fn behind_name(alloc: Global, name: &str, error: TableError) -> TableError
-    ensures { OrMemory TableError.OutOfMemory result (result ≡ error_under (Name name.now) error) }
-{
-    match Text::copy_of(alloc, name) {
-        Ok(name) => behind(error, Step::Name(name)),
         Err(_) => TableError::OutOfMemory,
     }
 }

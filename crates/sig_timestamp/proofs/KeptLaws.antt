@@ -11,7 +11,7 @@ use Rattle.sig_base.specs.declared.memory.OutOfMemory.{OutOfMemory}
 use Rattle.sig_der.specs.Element.{element}
 use Rattle.sig_der.specs.ObjectIdentifiers.{sct_list}
 use Rattle.sig_certificate.specs.Certificate.{Extension, Cert, IsList, AreExtensions, IsTbsCertificate}
-use Rattle.sig_timestamp.specs.Kept.{AreMerged, AreKept, IsPrecertificate}
+use Rattle.sig_timestamp.specs.KeptExtensions.{AreMerged, AreKept, IsPrecertificate}
 use Rattle.sig_timestamp.specs.Precert.{without_oid, kept_extensions, extensions_element, tbs_with}
 use Rattle.sig_timestamp.specs.Precert.{precertificate}
 use Rattle.sig_timestamp.proofs.PrecertLaws.{without_scts}

@@ -6,7 +6,7 @@ use Rattle.std.proofs.lemmas.Bool.{eqb-true}
 use Rattle.std.proofs.lemmas.Nat.{be_bytes_8, from_be_bytes-to_be_bytes_8}
 use Rattle.sig_base.proofs.OptionSteps.{bind_is, bind_of_some, when_is, some_is}
 use Rattle.sig_der.specs.Element.{IsElement}
-use Rattle.sig_der.specs.Taking.{take_whole}
+use Rattle.sig_der.specs.FrontReaders.{take_whole}
 use Rattle.sig_timestamp.specs.Numbers.{v1}
 use Rattle.sig_der.proofs.Bytes.{IsBytes, IsBytes-right, IsBytes-left, IsBytes-tail}
 use Rattle.sig_der.proofs.Takings.{take_whole_takes, take_whole_again}

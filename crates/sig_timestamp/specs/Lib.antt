@@ -4,9 +4,9 @@ pub mod Numbers
 pub mod Vectors
 pub mod SctList
 pub mod Timestamps
-pub mod Borrowed
+pub mod BorrowedScts
 pub mod Precert
-pub mod Kept
+pub mod KeptExtensions
 pub mod SctErrors
 pub mod SctBytes
 pub mod SignedStruct

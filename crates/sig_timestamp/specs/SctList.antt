@@ -6,7 +6,7 @@ use Rattle.sig_base.specs.OptionSteps.{◌>>=◌}
 use Rattle.sig_der.specs.Element.{IsElement}
 use Rattle.sig_der.specs.Joined.{AreJoined}
 use Rattle.sig_der.specs.Tag.{OCTET_STRING}
-use Rattle.sig_der.specs.Taking.{take_whole, many_at}
+use Rattle.sig_der.specs.FrontReaders.{take_whole, many_at}
 use Rattle.sig_timestamp.specs.Numbers.{v1, hash_length}
 use Rattle.sig_timestamp.specs.Vectors.{vector, IsShort, bytes_at, vector_at, whole_vector}
 

@@ -4,11 +4,11 @@ ghost use Rattle.std.specs.Prelude.{◌≡◌, ◌↔◌, IfOk, IsSome, IsErrOf,
 ghost use Rattle.sig_base.specs.Answers.{Answers, ComesWhere};
 ghost use Rattle.sig_timestamp.specs.SctBytes.{signed_of};
 ghost use Rattle.sig_timestamp.specs.Timestamps.{LacksSct, HasBadSct, only_one, sct_in, sct_of, sct_of_value};
-ghost use Rattle.sig_der.specs.Taking.{many_at};
+ghost use Rattle.sig_der.specs.FrontReaders.{many_at};
 ghost use Rattle.sig_timestamp.specs.Vectors.{vector_at};
 ghost use Rattle.sig_timestamp.specs.Embedded.{issuer_in_chain, ready, IsEmbedded, IsEmbeddedUnder, IsSaidOf};
 ghost use Rattle.sig_timestamp.specs.Embedded.{IsSaidOfValue};
-ghost use Rattle.sig_timestamp.specs.Borrowed.{sct_result, sct_now};
+ghost use Rattle.sig_timestamp.specs.BorrowedScts.{sct_result, sct_now};
 
 use crate::issuer::find_issuer;
 use crate::precert::precert_tbs_der;
@@ -137,25 +137,6 @@ fn embed(
     Ok(CertificateEmbeddedSCT { signed })
 }
 
-/// Returns what the SCT of the certificate signs.
-fn sign(
-    alloc: Global,
-    leaf: &Certificate,
-    issuer_spki: &[u8],
-    sct: BorrowedSct<'_>,
-) -> Result<DigitallySigned, OutOfMemory>
-    ensures { IfOk result (λ d. d ≡ signed_of leaf.now issuer_spki.now (sct_now sct.entry)) }
-{
-    Ok(DigitallySigned {
-        timestamp: sct.timestamp,
-        issuer_key_hash: sha256(issuer_spki),
-        tbs_certificate: precert_tbs_der(alloc, leaf)?,
-        extensions: Bytes::copy_of(alloc, sct.extensions)?,
-        log_id: *sct.log_id,
-        signature: Bytes::copy_of(alloc, sct.signature)?,
-    })
-}
-
 /// Returns the one SCT of the certificate.
 fn sct_of(leaf: &Certificate) -> Result<BorrowedSct<'_>, CertificateErrorKind>
     ensures read { sct_result result ≡ sct_of leaf.now }
@@ -192,4 +173,23 @@ fn read_only(list: &[u8]) -> Result<BorrowedSct<'_>, CertificateErrorKind>
 {
     let sct = only_one(list)?;
     sct_at(sct).ok_or(CertificateErrorKind::LeafSCTMalformed)
+}
+
+/// Returns what the SCT of the certificate signs.
+fn sign(
+    alloc: Global,
+    leaf: &Certificate,
+    issuer_spki: &[u8],
+    sct: BorrowedSct<'_>,
+) -> Result<DigitallySigned, OutOfMemory>
+    ensures { IfOk result (λ d. d ≡ signed_of leaf.now issuer_spki.now (sct_now sct.entry)) }
+{
+    Ok(DigitallySigned {
+        timestamp: sct.timestamp,
+        issuer_key_hash: sha256(issuer_spki),
+        tbs_certificate: precert_tbs_der(alloc, leaf)?,
+        extensions: Bytes::copy_of(alloc, sct.extensions)?,
+        log_id: *sct.log_id,
+        signature: Bytes::copy_of(alloc, sct.signature)?,
+    })
 }

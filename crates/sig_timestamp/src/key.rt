@@ -56,7 +56,6 @@ impl Key {
         read_key(alloc, spki_bytes)
     }
 
-    /// The point.
     pub(crate) fn point(&self) -> &[u8]
         ensures { result.now ≡ self.now.point }
     {

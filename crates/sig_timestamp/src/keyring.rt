@@ -61,13 +61,6 @@ impl Keyring {
         }
     }
 
-    /// Returns the key of an id.
-    fn key(&self, id: &[u8; 32]) -> Option<&Key>
-        ensures { option_map (λ k. k.now.point) result ≡ point_at self.now id.now }
-    {
-        self.keys.get(id)
-    }
-
     /// Returns the point of P-256 of the key of this id, or `None` if the keyring has no such key.
     pub fn point(&self, key_id: &[u8; 32]) -> Option<&[u8]>
         ensures { option_map (λ p. p.now) result ≡ point_at self.now key_id.now }
@@ -76,6 +69,13 @@ impl Keyring {
             Some(key) => Some(key.point()),
             None => None,
         }
+    }
+
+    /// Returns the key of an id.
+    fn key(&self, id: &[u8; 32]) -> Option<&Key>
+        ensures { option_map (λ k. k.now.point) result ≡ point_at self.now id.now }
+    {
+        self.keys.get(id)
     }
 
     /// Whether the key of this id accepts the signature over the message. Takes no memory. Errors:

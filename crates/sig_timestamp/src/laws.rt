@@ -2,7 +2,7 @@
 //! and its proof is that they hold.
 
 ghost use Rattle.std.specs.Prelude.{◌≡◌, ◌↔◌, ◌^◌, ◌<◌, ℕ, List, length};
-ghost use Rattle.sig_timestamp.specs.Kept.{IsPrecertificate};
+ghost use Rattle.sig_timestamp.specs.KeptExtensions.{IsPrecertificate};
 ghost use Rattle.sig_timestamp.specs.Precert.{precertificate};
 ghost use Rattle.sig_timestamp.specs.SctBytes.{signed_bytes};
 ghost use Rattle.sig_timestamp.specs.SignedStruct.{IsSignedStruct};

@@ -3,18 +3,15 @@
 
 ghost use Rattle.std.specs.Prelude.{◌≡◌, option_map};
 ghost use Rattle.sig_timestamp.specs.Vectors.{bytes_at, vector_at, whole_vector};
-ghost use Rattle.sig_timestamp.specs.Borrowed.{both_now};
+ghost use Rattle.sig_timestamp.specs.BorrowedScts.{both_now};
 
-/// Returns so many bytes, and what follows them.
-#[tactic(auto, unfolding(crate::specs::Vectors::bytes_at))]
-pub(crate) fn bytes_at(bytes: &[u8], count: usize) -> Option<(&[u8], &[u8])>
-    ensures { bytes_at count bytes.now ≡ option_map both_now result }
+/// Returns the content of the vector, if it is all of the bytes.
+#[tactic(auto, unfolding(crate::specs::Vectors::whole_vector))]
+pub(crate) fn whole_vector(bytes: &[u8]) -> Option<&[u8]>
+    ensures { whole_vector bytes.now ≡ option_map (λ v. v.now) result }
 {
-    if bytes.len() < count {
-        None
-    } else {
-        Some(bytes.split_at(count))
-    }
+    let (content, rest) = vector_at(bytes)?;
+    if rest.is_empty() { Some(content) } else { None }
 }
 
 /// Returns the bytes of the vector at the front, and what follows it.
@@ -28,11 +25,14 @@ pub(crate) fn vector_at(bytes: &[u8]) -> Option<(&[u8], &[u8])>
     }
 }
 
-/// Returns the content of the vector, if it is all of the bytes.
-#[tactic(auto, unfolding(crate::specs::Vectors::whole_vector))]
-pub(crate) fn whole_vector(bytes: &[u8]) -> Option<&[u8]>
-    ensures { whole_vector bytes.now ≡ option_map (λ v. v.now) result }
+/// Returns so many bytes, and what follows them.
+#[tactic(auto, unfolding(crate::specs::Vectors::bytes_at))]
+pub(crate) fn bytes_at(bytes: &[u8], count: usize) -> Option<(&[u8], &[u8])>
+    ensures { bytes_at count bytes.now ≡ option_map both_now result }
 {
-    let (content, rest) = vector_at(bytes)?;
-    if rest.is_empty() { Some(content) } else { None }
+    if bytes.len() < count {
+        None
+    } else {
+        Some(bytes.split_at(count))
+    }
 }

@@ -9,7 +9,7 @@
 ghost use Rattle.std.specs.Prelude.{◌≡◌, ℕ, List, [], ◌∷◌, ◌++◌, IfOk, OnOk};
 ghost use Rattle.sig_certificate.specs.Certificate.{IsTbsCertificate};
 ghost use Rattle.sig_certificate.specs.Lookups.{borrowed_extension};
-ghost use Rattle.sig_timestamp.specs.Kept.{IsPrecertificate};
+ghost use Rattle.sig_timestamp.specs.KeptExtensions.{IsPrecertificate};
 ghost use Rattle.sig_timestamp.specs.Precert.{precertificate, kept_extensions, kept_of, ders_of, tbs_with};
 ghost use Rattle.sig_timestamp.specs.Precert.{HaveSpelling, IsWithoutScts};
 

@@ -14,11 +14,11 @@
 //! ```
 
 ghost use Rattle.std.specs.Prelude.{◌≡◌, option_map, is_some, length};
-ghost use Rattle.sig_der.specs.Taking.{many_at};
+ghost use Rattle.sig_der.specs.FrontReaders.{many_at};
 ghost use Rattle.sig_timestamp.specs.Vectors.{vector_at};
 ghost use Rattle.sig_timestamp.specs.SctList.{signed_at, after_version, sct_at, list_in};
 ghost use Rattle.sig_timestamp.specs.Timestamps.{only_one};
-ghost use Rattle.sig_timestamp.specs.Borrowed.{both_now, sct_now, part_now};
+ghost use Rattle.sig_timestamp.specs.BorrowedScts.{both_now, sct_now, part_now};
 
 use crate::opaque::{bytes_at, vector_at, whole_vector};
 use crate::sct_error::CertificateErrorKind;
@@ -39,7 +39,7 @@ pub(crate) struct BorrowedSct<'a> {
     pub(crate) signature: &'a [u8],
 }
 
-/// Returns the SCT that the bytes are. `None` if they are none.
+/// Returns the SCT that the bytes are. `None` if they are not one.
 #[tactic(auto, unfolding(crate::specs::SctList::sct_at, crate::specs::Vectors::bytes_at))]
 pub(crate) fn sct_at(bytes: &[u8]) -> Option<BorrowedSct<'_>>
     ensures { sct_at bytes.now ≡ option_map sct_now result }

@@ -51,7 +51,7 @@ pub struct DigitallySigned {
     pub extensions: Bytes,
     /// The SHA-256 of the log's SubjectPublicKeyInfo.
     pub log_id: [u8; 32],
-    /// The signature.
+    /// The signature, without the two bytes of its algorithm.
     pub signature: Bytes,
 }
 
@@ -120,6 +120,7 @@ pub fn signed_bytes(alloc: Global, sct: &DigitallySigned) -> Result<Vec<u8>, Out
     // The same in one equation.
     ensures exact { IfOk result (λ v. v.items ≡ signed_bytes sct.now) }
 {
+    // The bytes that the SCT signs are those of the struct of its fields, and no others.
     signed_structs(sct);
     spell(alloc, sct)
 }

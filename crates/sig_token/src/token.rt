@@ -104,7 +104,6 @@ fn read_token(alloc: Global, text: &str) -> Result<IdentityToken>
     })
 }
 
-/// The claims of a payload.
 fn claims_of_payload(alloc: Global, bytes: &[u8]) -> Result<Claims>
     ensures { Answers Memory (λ claims. claims) result (claims_or_fault (claims_in bytes.now)) }
 {

@@ -7,8 +7,8 @@ use base64::engine::general_purpose::STANDARD_NO_PAD;
 use sig_base::{Bytes, OutOfMemory};
 use std::alloc::Global;
 
-/// The bytes of a text in unpadded base64, or `None` if it is none: other letters, padding, stray bits, a letter too
-/// many. The empty text is that of no bytes. Fails only if out of memory.
+/// The bytes of a text in unpadded base64, or `None` if it is not one: other letters, padding, stray bits, a letter
+/// too many. The empty text is that of no bytes. Fails only if out of memory.
 #[tactic(auto, unfolding(crate::specs::Unpadded::unpadded_bytes))]
 pub(crate) fn decode_unpadded(alloc: Global, text: &str) -> Result<Option<Bytes>, OutOfMemory>
     ensures { IfOk result (λ found. found ≡ unpadded_bytes text.now) }

@@ -5,7 +5,7 @@ use Rattle.sig_base.proofs.OptionSteps.{bind_of_some}
 use Rattle.sig_certificate.specs.Certificate.{Cert, IsCertificate, IsVersion}
 use Rattle.sig_der.specs.Element.{IsElement}
 use Rattle.sig_der.specs.Tag.{INTEGER, VERSION}
-use Rattle.sig_der.specs.Taking.{take_any, take_tag}
+use Rattle.sig_der.specs.FrontReaders.{take_any, take_tag}
 use Rattle.sig_der.proofs.Takings.{take_any_again, take_tag_again}
 use Rattle.sig_verified.specs.Certificate.{ShowsSerial, behind_version, serial_in}
 

@@ -2,8 +2,8 @@
 use Rattle.std.proofs.Common.{◌≡◌, ℕ, ◌+◌, ◌≤◌, List, [], ◌∷◌, ◌++◌, length, take, refl, sym, ap, ◌∙◌, arith}
 use Rattle.std.proofs.Common.{append_assoc, length-append}
 use Rattle.std.proofs.lemmas.List.{take_all, take-append-le, append-nil}
-use Rattle.sig_bundle.proofs.Lists.{list_tree-append}
-use Rattle.sig_bundle.specs.Written.{list_tree}
+use Rattle.sig_json.proofs.WrittenLists.{list_tree-append}
+use Rattle.sig_json.specs.Writing.{list_tree}
 use Rattle.sig_certificate.specs.Names.{Name}
 use Rattle.sig_json.specs.Builders.{with_last}
 use Rattle.sig_json.specs.Data.{Data, array, no_items}

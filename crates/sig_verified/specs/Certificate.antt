@@ -2,7 +2,7 @@
 use Rattle.std.specs.Prelude.{◌≡◌, ℕ, List, [], ◌∷◌, ◌++◌, codes, take, Option, Some, None, option_map, unwrap_or}
 use Rattle.hex.specs.Hex.{encode_lower}
 use Rattle.sig_base.specs.OptionSteps.{◌>>=◌}
-use Rattle.sig_bundle.specs.Written.{TreeMember, list_tree, object_of}
+use Rattle.sig_json.specs.Writing.{TreeMember, list_tree, object_of}
 use Rattle.sig_certificate.specs.Certificate.{Cert, Extension, IsVersion}
 use Rattle.sig_certificate.specs.Lookups.{with_oid}
 use Rattle.sig_certificate.specs.Names.{Name, Email, Uri, Other, Unread, general_names_of}
@@ -10,12 +10,12 @@ use Rattle.sig_der.specs.Element.{IsElement}
 use Rattle.sig_der.specs.ObjectIdentifiers.{fulcio, subject_alternative_name}
 use Rattle.sig_der.specs.Reading.{Piece}
 use Rattle.sig_der.specs.Tag.{INTEGER, VERSION}
-use Rattle.sig_der.specs.Taking.{take_tag}
+use Rattle.sig_der.specs.FrontReaders.{take_tag}
 use Rattle.sig_evidence.specs.Checks.{validity_rows}
 use Rattle.sig_json.specs.Data.{Data, string}
 use Rattle.sig_policy.specs.Single.{extension_text}
 use Rattle.sig_policy.specs.Texts.{utf8_text}
-use Rattle.sig_shown.specs.Shown.{sha256_tree, some_rows, text_row}
+use Rattle.sig_shown.specs.ShownValues.{sha256_tree, some_rows, text_row}
 
 -- ---- names
 

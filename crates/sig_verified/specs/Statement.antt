@@ -3,7 +3,7 @@
 use Rattle.std.specs.Prelude.{ℕ, List, [], ◌∷◌, ◌++◌, codes, length, take, Option, Some, None}
 use Rattle.std.specs.Result.{result_ok}
 use Rattle.sig_base.specs.OptionSteps.{◌>>=◌}
-use Rattle.sig_bundle.specs.Written.{TreeMember, list_tree, object_of}
+use Rattle.sig_json.specs.Writing.{TreeMember, list_tree, object_of}
 use Rattle.sig_bundle.specs.declared.bundle.Content.{Content}
 use Rattle.sig_bundle.specs.declared.bundle.Content.TheVariants.{DsseEnvelope as Envelope, MessageSignature as Message}
 use Rattle.sig_dsse.specs.declared.envelope.DsseEnvelope.{DsseEnvelope}
@@ -11,7 +11,7 @@ use Rattle.sig_json.specs.Data.{Data}
 use Rattle.sig_json.specs.Kinds.{text_map_of, text_of}
 use Rattle.sig_json.specs.Member.{optional, required, required_list, required_text}
 use Rattle.sig_json.specs.Record.{record_with}
-use Rattle.sig_shown.specs.Shown.{count_row, sha256_tree, shown_rows, some_rows}
+use Rattle.sig_shown.specs.ShownValues.{count_row, sha256_tree, shown_rows, some_rows}
 use Rattle.sig_verified.specs.declared.statement.BriefStatement.{BriefStatement}
 use Rattle.sig_verified.specs.declared.statement.BriefSubject.{BriefSubject}
 

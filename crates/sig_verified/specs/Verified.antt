@@ -1,6 +1,6 @@
 -- What was verified, as an object.
 use Rattle.std.specs.Prelude.{List, [], ◌∷◌, ◌++◌, codes, Some}
-use Rattle.sig_bundle.specs.Written.{TreeMember, integer_tree, object_of}
+use Rattle.sig_json.specs.Writing.{TreeMember, integer_tree, object_of}
 use Rattle.sig_bundle.specs.declared.material.TransparencyLogEntry.{TransparencyLogEntry}
 use Rattle.sig_certificate.specs.Certificate.{Cert}
 use Rattle.sig_evidence.specs.Logs.{log_id_rows, named_sct, sct_rows}
@@ -8,7 +8,7 @@ use Rattle.sig_evidence.specs.Rules.{policy_tree}
 use Rattle.sig_evidence.specs.Trees.{proof_tree}
 use Rattle.sig_json.specs.Data.{Data}
 use Rattle.sig_rekor.specs.declared.inclusion_proof.InclusionProof.{InclusionProof}
-use Rattle.sig_shown.specs.Shown.{count_row, digest_tree, time_row}
+use Rattle.sig_shown.specs.ShownValues.{count_row, digest_tree, time_row}
 use Rattle.sig_timestamp.specs.Timestamps.{sct_of}
 use Rattle.sig_x509.specs.declared.issuer.Issuer.{Issuer}
 use Rattle.sig_x509.specs.declared.issuer.Issuer.TheVariants.{Anchor, Intermediate}

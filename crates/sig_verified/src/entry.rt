@@ -1,18 +1,33 @@
 //! The log's entry that was verified, and the SCT of the certificate.
 ghost use Rattle.std.specs.Prelude.{◌≡◌, IfOk};
-ghost use Rattle.sig_bundle.specs.Written.{members};
+ghost use Rattle.sig_json.specs.Writing.{members};
 ghost use Rattle.sig_json.specs.Data.{put};
 ghost use Rattle.sig_json.specs.Tree.{document_tree};
 ghost use Rattle.sig_verified.specs.Verified.{entry_tree, sct_tree};
 
 use sig_base::OutOfMemory;
-use sig_bundle::{Object, TransparencyLogEntry};
+use sig_bundle::TransparencyLogEntry;
 use sig_certificate::Certificate;
 use sig_evidence::{with_log_id, with_proof, with_sct};
-use sig_json::Document;
+use sig_json::{Document, Object};
 use sig_rekor::InclusionProof;
 use sig_shown::{with_integer, with_time};
 use std::alloc::Global;
+
+/// The object with an entry of a log as a member. Fails only if out of memory.
+pub(crate) fn with_entry(
+    object: Object,
+    alloc: Global,
+    name: &str,
+    entry: &TransparencyLogEntry,
+    proof: &InclusionProof,
+) -> Result<Object, OutOfMemory>
+    ensures { IfOk result (λ made. members made
+        ≡ put name.now (entry_tree entry.now proof.now) (members object)) }
+{
+    let value = entry_document(alloc, entry, proof)?;
+    object.with(alloc, name, value)
+}
 
 /// An entry of a log, and the proof that it is in the log's tree.
 #[tactic(auto, unfolding(crate::specs::Verified::entry_tree))]
@@ -30,30 +45,6 @@ fn entry_document(
     Ok(object.into_document())
 }
 
-/// The object with an entry of a log as a member. Fails only if out of memory.
-pub(crate) fn with_entry(
-    object: Object,
-    alloc: Global,
-    name: &str,
-    entry: &TransparencyLogEntry,
-    proof: &InclusionProof,
-) -> Result<Object, OutOfMemory>
-    ensures { IfOk result (λ made. members made
-        ≡ put name.now (entry_tree entry.now proof.now) (members object)) }
-{
-    let value = entry_document(alloc, entry, proof)?;
-    object.with(alloc, name, value)
-}
-
-/// The SCT of a certificate.
-#[tactic(auto, unfolding(crate::specs::Verified::sct_tree))]
-fn sct_document(alloc: Global, certificate: &Certificate) -> Result<Document, OutOfMemory>
-    ensures { IfOk result (λ document. document_tree document ≡ sct_tree certificate.now) }
-{
-    let object = with_sct(Object::new(alloc), alloc, certificate)?;
-    Ok(object.into_document())
-}
-
 /// The object with the SCT of a certificate as a member. Fails only if out of memory.
 pub(crate) fn with_sct_of(
     object: Object,
@@ -65,4 +56,13 @@ pub(crate) fn with_sct_of(
 {
     let value = sct_document(alloc, certificate)?;
     object.with(alloc, name, value)
+}
+
+/// The SCT of a certificate.
+#[tactic(auto, unfolding(crate::specs::Verified::sct_tree))]
+fn sct_document(alloc: Global, certificate: &Certificate) -> Result<Document, OutOfMemory>
+    ensures { IfOk result (λ document. document_tree document ≡ sct_tree certificate.now) }
+{
+    let object = with_sct(Object::new(alloc), alloc, certificate)?;
+    Ok(object.into_document())
 }

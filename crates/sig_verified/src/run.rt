@@ -1,6 +1,6 @@
 //! What was verified, as an object.
 ghost use Rattle.std.specs.Prelude.{◌≡◌, IfOk};
-ghost use Rattle.sig_bundle.specs.Written.{members, members_into};
+ghost use Rattle.sig_json.specs.Writing.{members, members_into};
 ghost use Rattle.sig_json.specs.Data.{no_members, put};
 ghost use Rattle.sig_json.specs.Tree.{document_tree};
 ghost use Rattle.sig_verified.specs.Verified.{issuer_tree, verified_rows};
@@ -9,10 +9,10 @@ use crate::certificate::with_certificate;
 use crate::entry::{with_entry, with_sct_of};
 use crate::envelope::with_envelope;
 use sig_base::OutOfMemory;
-use sig_bundle::{ArtifactDigest, Bundle, Object};
+use sig_bundle::{ArtifactDigest, Bundle};
 use sig_checked_bundle::CheckedBundle;
 use sig_evidence::with_policy_rules;
-use sig_json::Document;
+use sig_json::{Document, Object};
 use sig_policy::RequestPolicy;
 use sig_rekor::InclusionProof;
 use sig_shown::{with_count, with_digest};
@@ -22,7 +22,7 @@ use std::alloc::Global;
 /// What was verified.
 #[derive(Clone, Copy)]
 pub struct VerifiedRun<'a> {
-    /// The bundle.
+    /// The bundle as it was read.
     pub bundle: &'a Bundle,
     /// The same as it was checked.
     pub checked: &'a CheckedBundle,
@@ -34,33 +34,6 @@ pub struct VerifiedRun<'a> {
     pub digest: &'a ArtifactDigest,
     /// The policy that holds of its certificate.
     pub policy: &'a RequestPolicy,
-}
-
-/// Who issued a certificate.
-#[tactic(auto, unfolding(crate::specs::Verified::issuer_tree))]
-fn issuer_document(alloc: Global, issuer: Issuer) -> Result<Document, OutOfMemory>
-    ensures { IfOk result (λ document. document_tree document ≡ issuer_tree issuer) }
-{
-    let object = match issuer {
-        Issuer::Anchor(place) => with_count(Object::new(alloc), alloc, "anchor", place as u64)?,
-        Issuer::Intermediate(place) => {
-            with_count(Object::new(alloc), alloc, "further", place as u64)?
-        }
-    };
-    Ok(object.into_document())
-}
-
-/// The object with who issued a certificate as a member.
-fn with_issuer(
-    object: Object,
-    alloc: Global,
-    name: &str,
-    issuer: Issuer,
-) -> Result<Object, OutOfMemory>
-    ensures { IfOk result (λ made. members made ≡ put name.now (issuer_tree issuer) (members object)) }
-{
-    let value = issuer_document(alloc, issuer)?;
-    object.with(alloc, name, value)
 }
 
 /// The object of what was verified. Its members are
@@ -87,4 +60,31 @@ pub fn verified(alloc: Global, run: &VerifiedRun<'_>) -> Result<Object, OutOfMem
     let object = with_digest(object, alloc, "digest", run.digest)?;
     let object = with_envelope(object, alloc, "envelope", &run.bundle.content)?;
     with_policy_rules(object, alloc, "policy", run.policy, certificate)
+}
+
+/// The object with who issued a certificate as a member.
+fn with_issuer(
+    object: Object,
+    alloc: Global,
+    name: &str,
+    issuer: Issuer,
+) -> Result<Object, OutOfMemory>
+    ensures { IfOk result (λ made. members made ≡ put name.now (issuer_tree issuer) (members object)) }
+{
+    let value = issuer_document(alloc, issuer)?;
+    object.with(alloc, name, value)
+}
+
+/// Who issued a certificate.
+#[tactic(auto, unfolding(crate::specs::Verified::issuer_tree))]
+fn issuer_document(alloc: Global, issuer: Issuer) -> Result<Document, OutOfMemory>
+    ensures { IfOk result (λ document. document_tree document ≡ issuer_tree issuer) }
+{
+    let object = match issuer {
+        Issuer::Anchor(place) => with_count(Object::new(alloc), alloc, "anchor", place as u64)?,
+        Issuer::Intermediate(place) => {
+            with_count(Object::new(alloc), alloc, "further", place as u64)?
+        }
+    };
+    Ok(object.into_document())
 }

@@ -8,7 +8,7 @@ use Rattle.sig_audit.proofs.ChainLaws.{chain-one, chain-push}
 use Rattle.sig_audit.specs.Chained.{AreChained, HasGrownFrom}
 use Rattle.sig_audit.specs.Fronts.{IsLast}
 use Rattle.sig_audit.specs.declared.chain.ChainHead.{ChainHead}
-use Rattle.sig_witness.specs.Kept.{IsHead, IsKeptChain, first_head, last_of}
+use Rattle.sig_witness.specs.KeptLogs.{IsHead, IsKeptChain, first_head, last_of}
 use Rattle.sig_witness.specs.Updates.{most_heads}
 
 -- a chain has a last head

@@ -4,7 +4,7 @@ use Rattle.std.proofs.Common.{refl, sym, ap}
 use Rattle.std.specs.Prelude.{IsTrue}
 use Rattle.std.specs.List.{AllByRecursion, list_any}
 use Rattle.std.proofs.lemmas.Bool.{eqb-true, eqb-false, ne_eqb}
-use Rattle.sig_witness.specs.Kept.{IsOriginText, line_feed}
+use Rattle.sig_witness.specs.KeptLogs.{IsOriginText, line_feed}
 
 -- no byte is a newline, by the test of each
 pub lacks-byte : (origin : List ℕ) → list_any (λ b. b == line_feed) origin ≡ false

@@ -22,7 +22,7 @@ use Rattle.sig_audit.specs.declared.chain.ChainHead.{ChainHead}
 use Rattle.sig_witness.specs.declared.kept_log.KeptLog.{KeptLog}
 use Rattle.sig_witness.specs.declared.state_error.StateError.{StateError}
 use Rattle.sig_witness.specs.declared.state_error.StateError.TheVariants.{Lines, OutOfMemory}
-use Rattle.sig_witness.specs.Kept.{IsHead}
+use Rattle.sig_witness.specs.KeptLogs.{IsHead}
 use Rattle.sig_witness.specs.StateText.{LogLines, lines_of, kept_head, IsCutLog, IsCutEntry, IsStateOf}
 use Rattle.sig_witness.specs.StateCauses.{AreLines, AreLinesOf, IsAbove, AreSound, Unless, IsLinesFault, IsFirstFault}
 use Rattle.sig_witness.specs.StateCauses.{IsStateFault, IsStateAnswer}

@@ -4,10 +4,10 @@ use Rattle.std.proofs.Common.{arith, append_assoc, length-append, subst}
 use Rattle.std.proofs.lemmas.Bool.{eqb-true}
 use Rattle.std.specs.List.{AllByRecursion}
 use Rattle.sig_base.proofs.OptionSteps.{bind_is, some_is}
-use Rattle.sig_rekor.proofs.Cutting.{cut_at-some}
+use Rattle.sig_rekor.proofs.CutLaws.{cut_at-some}
 use Rattle.sig_rekor.proofs.Steps.{all_push}
 use Rattle.sig_rekor.proofs.WrittenCuts.{cut_after, free-lacks}
-use Rattle.sig_rekor.specs.Cut.{cut_at}
+use Rattle.sig_rekor.specs.TextCuts.{cut_at}
 use Rattle.sig_rekor.specs.NoteText.{newline}
 use Rattle.sig_witness.specs.StateCauses.{AreLines, AreLinesOf, IsLine}
 use Rattle.sig_witness.specs.StateCut.{lines_cut}

@@ -17,7 +17,7 @@ use Rattle.sig_rekor.proofs.Steps.{all_push}
 use Rattle.sig_witness.specs.declared.kept_log.KeptLog.{KeptLog}
 use Rattle.sig_witness.specs.declared.state_error.StateError.{StateError}
 use Rattle.sig_witness.specs.declared.state_error.StateError.TheVariants.{OutOfMemory}
-use Rattle.sig_witness.specs.Kept.{IsKeptLog}
+use Rattle.sig_witness.specs.KeptLogs.{IsKeptLog}
 use Rattle.sig_witness.specs.StateText.{LogLines, all_before, lines_of, IsCutEntry, IsStateOf}
 use Rattle.sig_witness.specs.StateCauses.{AreLines, AreLinesOf, IsLinesFault, IsFirstFault}
 use Rattle.sig_witness.specs.StateRead.{last_origin, IsLogOf, IsReadEntry, AreLogsOf}

@@ -10,7 +10,7 @@ use Rattle.sig_rekor.proofs.Steps.{all_push}
 use Rattle.sig_audit.specs.Chained.{AreChained}
 use Rattle.sig_audit.specs.declared.chain.ChainHead.{ChainHead}
 use Rattle.sig_witness.specs.declared.kept_log.KeptLog.{KeptLog}
-use Rattle.sig_witness.specs.Kept.{IsHead, IsKeptLog, last_of}
+use Rattle.sig_witness.specs.KeptLogs.{IsHead, IsKeptLog, last_of}
 use Rattle.sig_witness.specs.StateText.{LogLines, lines_before, all_before, lines_of, state_text, kept_head, IsHeadValue}
 use Rattle.sig_witness.specs.StateText.{cut_entry, cut_logs, IsCutEntry, IsStateOf}
 use Rattle.sig_witness.proofs.Heads.{chain-last, get-all}

@@ -24,7 +24,7 @@ use Rattle.sig_witness.specs.declared.error.WitnessError.TheVariants.{UnknownOri
 use Rattle.sig_witness.specs.declared.kept_log.KeptLog.{KeptLog}
 use Rattle.sig_witness.specs.Answer.{room_answer, head_answer, log_answer, found_answer, update_answer}
 use Rattle.sig_witness.specs.Causes.{IsHeadFault, IsLogFault, IsUpdateAnswer}
-use Rattle.sig_witness.specs.Kept.{IsKeptLog, IsKeptChain, last_of}
+use Rattle.sig_witness.specs.KeptLogs.{IsKeptLog, IsKeptChain, last_of}
 use Rattle.sig_witness.specs.Updates.{Update, origin_of, new_head, grown_log, most_heads, IsTaken, IsStep}
 use Rattle.sig_witness.proofs.Entries.{found-all}
 use Rattle.sig_witness.proofs.Heads.{chain-last, chain-grown}

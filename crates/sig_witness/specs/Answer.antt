@@ -10,7 +10,7 @@ use Rattle.sig_audit.specs.declared.chain.ChainHead.{ChainHead}
 use Rattle.sig_witness.specs.declared.error.WitnessError.{WitnessError}
 use Rattle.sig_witness.specs.declared.error.WitnessError.TheVariants.{UnknownOrigin, NoteKey, OldSize, Consistency, Full}
 use Rattle.sig_witness.specs.declared.kept_log.KeptLog.{KeptLog}
-use Rattle.sig_witness.specs.Kept.{last_of}
+use Rattle.sig_witness.specs.KeptLogs.{last_of}
 use Rattle.sig_witness.specs.Updates.{Update, origin_of, most_heads}
 
 -- whether there is room after so many heads, once the proof was accepted

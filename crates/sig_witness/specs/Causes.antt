@@ -13,7 +13,7 @@ use Rattle.sig_witness.specs.declared.error.WitnessError.{WitnessError}
 use Rattle.sig_witness.specs.declared.error.WitnessError.TheVariants.{OriginText, OriginKnown, UnknownOrigin, NoteKey}
 use Rattle.sig_witness.specs.declared.error.WitnessError.TheVariants.{OldSize, Consistency, Full}
 use Rattle.sig_witness.specs.declared.kept_log.KeptLog.{KeptLog}
-use Rattle.sig_witness.specs.Kept.{IsOriginText}
+use Rattle.sig_witness.specs.KeptLogs.{IsOriginText}
 use Rattle.sig_witness.specs.Updates.{Update, origin_of, new_head, most_heads, IsTaken}
 
 -- the consistency proof of an update from the kept head fails with this error

@@ -1,5 +1,5 @@
 pub mod Updates
-pub mod Kept
+pub mod KeptLogs
 pub mod Causes
 pub mod Answer
 pub mod StateText

@@ -11,7 +11,7 @@ use Rattle.sig_base.specs.declared.scheme.VerifyScheme.{VerifyScheme}
 use Rattle.sig_witness.specs.declared.kept_log.KeptLog.{KeptLog}
 use Rattle.sig_witness.specs.declared.state_error.StateError.{StateError}
 use Rattle.sig_witness.specs.declared.state_error.StateError.TheVariants.{Lines, Origin, Scheme, Key, Size, Hash, Root}
-use Rattle.sig_witness.specs.Kept.{line_feed}
+use Rattle.sig_witness.specs.KeptLogs.{line_feed}
 use Rattle.sig_witness.specs.StateText.{LogLines, all_before, IsStateOf}
 
 -- no newline is in a line

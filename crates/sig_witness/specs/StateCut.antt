@@ -1,7 +1,7 @@
 -- The first five lines of a text, for private clauses.
 use Rattle.std.specs.Prelude.{ℕ, List, Option, Some}
 use Rattle.sig_base.specs.OptionSteps.{◌>>=◌}
-use Rattle.sig_rekor.specs.Cut.{cut_at}
+use Rattle.sig_rekor.specs.TextCuts.{cut_at}
 use Rattle.sig_rekor.specs.NoteText.{newline}
 use Rattle.sig_witness.specs.StateText.{LogLines}
 use Rattle.sig_witness.specs.declared.state_lines.Cut.{Cut}

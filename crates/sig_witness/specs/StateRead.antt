@@ -11,7 +11,7 @@ use Rattle.sig_audit.specs.declared.chain.ChainHead.{ChainHead}
 use Rattle.sig_witness.specs.declared.kept_log.KeptLog.{KeptLog}
 use Rattle.sig_witness.specs.declared.state_error.StateError.{StateError}
 use Rattle.sig_witness.specs.declared.state_error.StateError.TheVariants.{Scheme, Key, Size, Hash, Root}
-use Rattle.sig_witness.specs.Kept.{IsHead}
+use Rattle.sig_witness.specs.KeptLogs.{IsHead}
 use Rattle.sig_witness.specs.StateText.{LogLines, lines_of, IsCutLog}
 use Rattle.sig_witness.specs.StateCauses.{HasScheme, HasKey, HasSize, HasHash, HasRoot, AreSound, Unless}
 

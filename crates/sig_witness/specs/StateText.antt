@@ -9,7 +9,7 @@ use Rattle.sig_base.specs.Scheme.{name_of}
 use Rattle.sig_key.specs.Key.{key_scheme, key_info}
 use Rattle.sig_audit.specs.declared.chain.ChainHead.{ChainHead}
 use Rattle.sig_witness.specs.declared.kept_log.KeptLog.{KeptLog}
-use Rattle.sig_witness.specs.Kept.{IsHead, IsOriginText, first_head, last_of, line_feed}
+use Rattle.sig_witness.specs.KeptLogs.{IsHead, IsOriginText, first_head, last_of, line_feed}
 
 -- the five lines of an origin
 pub record LogLines : Type 0 where

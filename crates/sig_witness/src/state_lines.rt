@@ -1,7 +1,7 @@
 //! `StateLines`: the five lines of an origin, as they are in a text.
 ghost use Rattle.std.specs.Prelude.{◌≡◌, ◌<◌, ◌++◌, ◌∷◌, [], List, length, OnOk, option_map, IfSome, IfOk, IfErr};
 ghost use Rattle.sig_base.specs.Answers.{OrMemory};
-ghost use Rattle.sig_rekor.specs.Cut.{cut_at};
+ghost use Rattle.sig_rekor.specs.TextCuts.{cut_at};
 ghost use Rattle.sig_rekor.specs.NoteText.{newline};
 ghost use Rattle.sig_witness.specs.StateCauses.{AreLinesOf};
 ghost use Rattle.sig_witness.specs.StateCut.{lines_cut, lines_in};
@@ -67,20 +67,6 @@ pub(crate) fn split_lines(alloc: Global, text: &str) -> Result<Vec<StateLines<'_
     Ok(all)
 }
 
-/// Adds lines. Fails only if out of memory.
-fn add_lines<'a>(all: &mut Vec<StateLines<'a>>, cut: &Cut<'a>) -> Result<(), OutOfMemory>
-    ensures { OnOk result (all.new.items ≡ all.old.items ++ lines_in cut.now ∷ []) }
-{
-    all.push(StateLines {
-        origin: cut.origin,
-        scheme: cut.scheme,
-        key: cut.key,
-        size: cut.size,
-        hash: cut.hash,
-    })?;
-    Ok(())
-}
-
 /// Returns the first five lines and what is after them, or `None` if there are fewer.
 fn cut_lines(text: &str) -> Option<Cut<'_>>
     ensures cut { option_map (λ cut. (lines_in cut, cut.rest.now)) result ≡ lines_cut text.now }
@@ -107,4 +93,18 @@ fn cut_line(text: &str) -> Option<(&str, &str)>
     ensures shorter { IfSome result (λ x. length x.1.now < length text.now) }
 {
     text.split_once("\n")
+}
+
+/// Adds lines. Fails only if out of memory.
+fn add_lines<'a>(all: &mut Vec<StateLines<'a>>, cut: &Cut<'a>) -> Result<(), OutOfMemory>
+    ensures { OnOk result (all.new.items ≡ all.old.items ++ lines_in cut.now ∷ []) }
+{
+    all.push(StateLines {
+        origin: cut.origin,
+        scheme: cut.scheme,
+        key: cut.key,
+        size: cut.size,
+        hash: cut.hash,
+    })?;
+    Ok(())
 }

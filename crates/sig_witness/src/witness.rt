@@ -10,7 +10,7 @@ ghost use Rattle.sig_base.specs.Collision.{IsCollision};
 ghost use Rattle.sig_merkle.specs.HashedText.{AreHashedTexts};
 ghost use Rattle.sig_witness.specs.Answer.{update_answer};
 ghost use Rattle.sig_witness.specs.Causes.{IsAddAnswer, IsUpdateAnswer};
-ghost use Rattle.sig_witness.specs.Kept.{AreKept, IsKeptLog, IsOriginText, chain_at, first_head, last_of, line_feed, log_key, new_log, size_and_root};
+ghost use Rattle.sig_witness.specs.KeptLogs.{AreKept, IsKeptLog, IsOriginText, chain_at, first_head, last_of, line_feed, log_key, new_log, size_and_root};
 ghost use Rattle.sig_witness.specs.Updates.{grown_log, head_of, IsStep, update_of};
 ghost use Rattle.sig_witness.specs.declared.error.WitnessError.{WitnessError as witness_error};
 ghost use Rattle.sig_witness.specs.declared.kept_log.KeptLog.{KeptLog as Log};
@@ -38,7 +38,7 @@ impl Model for Witness {
     ghost use Rattle.std.specs.Prelude.{ℕ, List};
     ghost use Rattle.std.specs.List.{AllByRecursion, list_any};
     ghost use Rattle.sig_witness.specs.declared.kept_log.KeptLog.{KeptLog};
-    ghost use Rattle.sig_witness.specs.Kept.{IsKeptLog};
+    ghost use Rattle.sig_witness.specs.KeptLogs.{IsKeptLog};
 
     ghost Value = { List (List ℕ × KeptLog) };
 

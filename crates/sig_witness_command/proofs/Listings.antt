@@ -19,7 +19,7 @@ use Rattle.sig_rekor.specs.declared.checkpoint.CheckpointSignature.{CheckpointSi
 use Rattle.sig_rekor.specs.declared.checkpoint.SignedCheckpoint.{SignedCheckpoint}
 use Rattle.sig_reply.proofs.RowsTexts.{list_of-whole, longer}
 use Rattle.sig_reply.specs.RowsText.{IsDocumentOf, rows_text}
-use Rattle.sig_witness.specs.Kept.{log_key}
+use Rattle.sig_witness.specs.KeptLogs.{log_key}
 use Rattle.sig_witness.specs.Updates.{Update, update_of}
 use Rattle.sig_witness_command.proofs.Marks.{next-place, put-more, put-past}
 use Rattle.sig_witness_command.proofs.EachOnce.{once-begins, once-parts}

@@ -8,7 +8,7 @@ use Rattle.std.proofs.lemmas.List.Elements.{Contains-append_left, Contains-push,
 use Rattle.sig_base.specs.Base64.{base64_bytes, base64_text}
 use Rattle.sig_base.specs.ByText.{text_lookup, text_put}
 use Rattle.sig_base.specs.declared.checker.AcceptedRow.{AcceptedRow}
-use Rattle.sig_json.proofs.Staying.{is_list-with_last}
+use Rattle.sig_json.proofs.StableKinds.{is_list-with_last}
 use Rattle.sig_json.specs.Tree.{document_tree}
 use Rattle.sig_key.specs.declared.verification_key.CosignVerificationKey.{CosignVerificationKey}
 use Rattle.sig_rekor.proofs.Graphic.{decimal-graphic, graphic-free}
@@ -17,7 +17,7 @@ use Rattle.sig_rekor.specs.declared.checkpoint.SignedCheckpoint.{SignedCheckpoin
 use Rattle.sig_reply.proofs.RowsTexts.{list_of-more, list_of-none, list_of-past}
 use Rattle.sig_reply.specs.RowsText.{IsListOf, row_tree, rows_text}
 use Rattle.sig_witness.proofs.Entries.{found-all, none-there}
-use Rattle.sig_witness.specs.Kept.{IsOriginText, log_key}
+use Rattle.sig_witness.specs.KeptLogs.{IsOriginText, log_key}
 use Rattle.sig_witness.specs.declared.kept_log.KeptLog.{KeptLog}
 use Rattle.sig_witness_command.proofs.Lookups.{put-cases, put-found, split-same}
 use Rattle.sig_witness_command.proofs.EachOnce.{absent-behind, once-begins, there-same}

@@ -3,14 +3,14 @@ use Rattle.std.proofs.Common.{◌≡◌, ◌<◌, ◌≤◌, ◌+◌, ◌∙◌,
 use Rattle.std.proofs.lemmas.Result.{IfOk-weaker}
 use Rattle.std.specs.List.{AllByRecursion}
 use Rattle.sig_base.specs.declared.memory.OutOfMemory.{OutOfMemory}
-use Rattle.sig_reply.proofs.Fitting.{wherever_put}
+use Rattle.sig_reply.proofs.FittingLists.{wherever_put}
 use Rattle.sig_reply.specs.Reply.{IsListingOf, listed, no_request}
 use Rattle.sig_reply.specs.RowsText.{FitsBeside, IsReadBack, rows_text}
 use Rattle.sig_reply.specs.declared.reply.Reply.{Reply}
 use Rattle.sig_request.specs.Limit.{most_bytes}
 use Rattle.sig_request.specs.ReadFrom.{IsReadFrom, IsRequestOf}
 use Rattle.sig_witness.proofs.Entries.{put-all}
-use Rattle.sig_witness.specs.Kept.{IsOriginText}
+use Rattle.sig_witness.specs.KeptLogs.{IsOriginText}
 use Rattle.sig_witness.specs.StateText.{IsCutEntry}
 use Rattle.sig_witness.specs.Updates.{Update}
 use Rattle.sig_witness.specs.declared.kept_log.KeptLog.{KeptLog}

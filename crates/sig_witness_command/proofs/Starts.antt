@@ -3,7 +3,7 @@ use Rattle.std.proofs.Common.{◌≡◌, ◌<◌, ◌≤◌, ◌+◌, ◌∙◌,
 use Rattle.std.proofs.lemmas.List.{append_assoc, take-append-drop, take_all, take_more}
 use Rattle.sig_base.specs.ByText.{text_put}
 use Rattle.sig_witness.proofs.StateBack.{same-answers, same-key}
-use Rattle.sig_witness.specs.Kept.{new_log}
+use Rattle.sig_witness.specs.KeptLogs.{new_log}
 use Rattle.sig_witness.specs.StateCauses.{IsStateFault}
 use Rattle.sig_witness.specs.StateText.{IsStateOf}
 use Rattle.sig_witness.specs.declared.kept_log.KeptLog.{KeptLog}

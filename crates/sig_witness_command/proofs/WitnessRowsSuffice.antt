@@ -18,7 +18,7 @@ use Rattle.sig_reply.specs.declared.reply.Reply.{Reply}
 use Rattle.sig_request.proofs.RequestTexts.{one_request}
 use Rattle.sig_request.specs.ReadFrom.{IsRequestOf}
 use Rattle.sig_witness.specs.Causes.{IsUpdateFault}
-use Rattle.sig_witness.specs.Kept.{log_key}
+use Rattle.sig_witness.specs.KeptLogs.{log_key}
 use Rattle.sig_witness.specs.Updates.{IsStep, IsTaken, Update, grown_log, new_head, origin_of}
 use Rattle.sig_witness.specs.declared.error.WitnessError.{WitnessError}
 use Rattle.sig_witness.specs.declared.kept_log.KeptLog.{KeptLog}

@@ -13,7 +13,7 @@ use Rattle.sig_reply.specs.NoteRow.{note_row}
 use Rattle.sig_reply.specs.Reply.{IsListingOf, listed, no_request}
 use Rattle.sig_reply.specs.RowsText.{FitsBeside, IsDocumentOf, IsReadBack, rows_text}
 use Rattle.sig_reply.specs.declared.reply.Reply.{Reply}
-use Rattle.sig_witness.specs.Kept.{log_key}
+use Rattle.sig_witness.specs.KeptLogs.{log_key}
 use Rattle.sig_witness.specs.Updates.{Update}
 use Rattle.sig_witness_command.specs.Reply.{IsReadAs, IsUnread}
 use Rattle.sig_witness_command.specs.Start.{Logs}

@@ -10,7 +10,7 @@ use Rattle.sig_key.specs.declared.verification_key.CosignVerificationKey.{Cosign
 use Rattle.sig_rekor.specs.NoteText.{note_text}
 use Rattle.sig_rekor.specs.declared.checkpoint.SignedCheckpoint.{SignedCheckpoint}
 use Rattle.sig_reply.specs.RowsText.{AddsRow, IsListOf, IsRowReadBack, rows_text, rows_tree}
-use Rattle.sig_witness.specs.Kept.{log_key}
+use Rattle.sig_witness.specs.KeptLogs.{log_key}
 use Rattle.sig_witness_command.specs.Outcome.{HasReading}
 use Rattle.sig_witness_command.specs.Questions.{checkpoint_rows, each_once_after, key_row}
 use Rattle.sig_witness_command.specs.Start.{Logs}

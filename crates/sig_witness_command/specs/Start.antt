@@ -5,7 +5,7 @@ use Rattle.sig_base.specs.ByText.{text_lookup, text_put}
 use Rattle.sig_base.specs.Scheme.{scheme_of}
 use Rattle.sig_key.specs.Key.{key_info, key_scheme}
 use Rattle.sig_key.specs.declared.verification_key.CosignVerificationKey.{CosignVerificationKey}
-use Rattle.sig_witness.specs.Kept.{IsOriginText, new_log}
+use Rattle.sig_witness.specs.KeptLogs.{IsOriginText, new_log}
 use Rattle.sig_witness.specs.StateCauses.{IsStateFault}
 use Rattle.sig_witness.specs.StateText.{IsStateOf}
 use Rattle.sig_witness.specs.declared.kept_log.KeptLog.{KeptLog}

@@ -1,5 +1,5 @@
--- Nothing else matters: of the accepted signatures of a request those decide its reply that `questions witness` lists;
--- and a list that is written fits one request with the request that it is of.
+-- Nothing else matters: of the accepted signatures of a request those alone decide its reply that the updates ask for,
+-- also where no list was written; and a list that is written fits one request with the request that it is of.
 use Rattle.std.specs.Prelude.{◌≡◌, ◌≤◌, ◌↔◌, ℕ, List, [], ◌∷◌, ◌++◌, Contains, length}
 use Rattle.sig_base.specs.declared.checker.AcceptedRow.{AcceptedRow}
 use Rattle.sig_reply.specs.Reply.{listed}
@@ -24,14 +24,15 @@ witness_with_accepted request rows = record {
   accepted = rows;
 }
 
--- the request's accepted signatures and these have the same of those that `questions witness` lists
+-- the request's accepted signatures and these have the same of those that the updates ask for, also where no list was
+-- written
 abbrev pub AgreeOnNotes : WitnessRequest → List AcceptedRow → Type 0
 AgreeOnNotes request rows =
     (start : Logs) (updates : List Update) → IsStart request start → AreUpdates request.updates updates
     → (row : AcceptedRow) → Contains (witness_rows start updates) row → Contains request.accepted row ↔ Contains rows row
 
--- Two requests of `witness` that differ in nothing but their accepted signatures, and in these in none that
--- `questions witness` lists, have the same reply.
+-- Two requests of `witness` that differ in nothing but their accepted signatures, and in these in none that the
+-- updates ask for, have the same reply, also where no list was written.
 abbrev pub WitnessQuestionsSuffice : Type 0
 WitnessQuestionsSuffice =
     (text other : List ℕ) (request : WitnessRequest) (rows : List AcceptedRow)

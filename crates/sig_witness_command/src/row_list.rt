@@ -15,7 +15,7 @@ use std::alloc::Global;
 /// note has a number, so that a signature is sought among those that are listed without its note's text.
 #[derive(Drop)]
 pub struct RowList {
-    /// The list itself.
+    /// The list, with one object for each signature.
     pub list: Document,
     /// How many bytes it takes.
     pub size: usize,

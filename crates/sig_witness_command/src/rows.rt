@@ -4,7 +4,7 @@ ghost use Rattle.std.specs.Option.{option_map};
 ghost use Rattle.sig_base.specs.ByText.{text_lookup};
 ghost use Rattle.sig_base.specs.declared.checker.AcceptedRow.{AcceptedRow as row_type};
 ghost use Rattle.sig_rekor.specs.NoteText.{note_text};
-ghost use Rattle.sig_witness.specs.Kept.{log_key};
+ghost use Rattle.sig_witness.specs.KeptLogs.{log_key};
 ghost use Rattle.sig_witness_command.specs.Questions.{IsNotesDocument, each_once_after, note_rows};
 ghost use Rattle.sig_witness_command.specs.RowList.{HasAdded, HasAddedRows, HasAddedText, HasRoom, IsListSoFar, IsSomeList};
 ghost use Rattle.sig_witness_command.specs.Start.{HaveLines, Logs};

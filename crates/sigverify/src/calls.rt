@@ -64,13 +64,6 @@ impl<W: Write + Drop> WriteCalls for Calls<W> {
     }
 }
 
-/// Whether a signal interrupted the call, which then moved nothing.
-fn is_interrupted(error: &io::Error) -> bool
-    ensures { IsTrue result ↔ (error_kind error.now ≡ Interrupted) }
-{
-    error.kind() == ErrorKind::Interrupted
-}
-
 /// Makes calls until one is not interrupted, and returns what that one returned. Of 2^64 - 1 calls each may be
 /// interrupted; then the error is of that kind.
 pub fn read_once<R: ReadCalls>(reader: &mut R, buf: &mut [u8]) -> io::Result<usize>
@@ -86,6 +79,13 @@ pub fn read_once<R: ReadCalls>(reader: &mut R, buf: &mut [u8]) -> io::Result<usi
         }
     }
     Err(io::Error::from(ErrorKind::Interrupted))
+}
+
+/// Whether a signal interrupted the call, which then moved nothing.
+fn is_interrupted(error: &io::Error) -> bool
+    ensures { IsTrue result ↔ (error_kind error.now ≡ Interrupted) }
+{
+    error.kind() == ErrorKind::Interrupted
 }
 
 /// Makes calls until one is not interrupted, and returns what that one returned, as `read_once`.

@@ -116,7 +116,7 @@ commands:
 
   witness Which heads have grown from those that are kept? The request on
          standard input is a JSON object with the members
-           state       text, what the last run wrote behind the empty line; empty
+           state       text, what the last run wrote after the empty line; empty
                        or absent before the first
            origins     optional list of the logs that are added to it, objects
                        with
@@ -130,7 +130,7 @@ commands:
            accepted    as of log
          The reply on standard output is a line for each update,
            accepted SIZE            the new head is kept
-           refused checkpoint       the text is no signed note
+           refused checkpoint       the text is not a signed note
            refused origin           its origin is not kept
            refused note-key         no signature is accepted under its key
            refused old-size KEPT    the head that is kept has this size
@@ -192,7 +192,7 @@ commands:
 
   explain log, explain verify, explain consistency
          Why is this the reply of the command? The request is the command's own.
-         The reply is that of the command, and behind it one line, a JSON object.
+         The reply is that of the command, and after it one line, a JSON object.
          Where a link fails, it has
            link        its name, as the reply has it
            cause       list of words: the reason, the most general word first
@@ -220,7 +220,7 @@ status:
   1   a link other than request fails; of witness, an update is refused; of
       gate, an artifact is not admitted
   2   the link request fails; of questions also, the list would be too long
-  64  the words are no command, or no number that demo takes
+  64  the words are not a command, or not a number that demo takes
   71  out of memory
   74  reading or writing failed
 ";

@@ -1,6 +1,6 @@
 -- The commands and their explanations by their numbers.
 use Rattle.std.specs.Prelude.{◌≡◌, ◌⊎◌, ◌+◌, ℕ}
-use Rattle.sig_program.specs.Explained.{explained_command}
+use Rattle.sig_program.specs.ExplainWords.{explained_command}
 use Rattle.sig_program.specs.declared.command.Command.{Command}
 use Rattle.sig_program.specs.declared.command.Command.TheVariants as command
 use Rattle.sig_program.specs.declared.explained.Explained.{Explained}

@@ -4,7 +4,7 @@ use Rattle.sig_audit.specs.Fronts.{EndsInList}
 use Rattle.sig_audit.specs.declared.chain.ChainHead.{ChainHead}
 use Rattle.sig_base.proofs.OptionSteps.{some_is}
 use Rattle.sig_merkle.specs.Root.{root}
-use Rattle.sig_witness.specs.Kept.{last_of, size_and_root}
+use Rattle.sig_witness.specs.KeptLogs.{last_of, size_and_root}
 
 pub ends-in : (entries : List (List ℕ)) (chain : List ChainHead) (size : ℕ) (hash : List ℕ)
     → ◌≡◌ {A = Option (ℕ × List ℕ)} (Some (size, hash)) (option_map size_and_root (last_of chain))

@@ -1,7 +1,7 @@
 //! The heads of an origin beside a list. Since no collision of SHA-256 is known, the extractor returns `None`.
 ghost use Rattle.sig_audit.specs.Fronts.{EndsInList};
 ghost use Rattle.sig_merkle.specs.Root.{root};
-ghost use Rattle.sig_witness.specs.Kept.{chain_at};
+ghost use Rattle.sig_witness.specs.KeptLogs.{chain_at};
 ghost use Rattle.std.specs.Prelude.{◌≡◌, IsTrue};
 
 use crate::parts::updates;

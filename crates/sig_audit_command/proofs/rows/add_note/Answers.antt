@@ -1,6 +1,6 @@
 -- The list has the signatures so far, and in the end all of them, or has no room for the next.
 use Rattle.std.proofs.Common.{◌<◌, ◌≤◌, ◌∙◌, ap, get_or, length, subst, arith}
-use Rattle.sig_json.proofs.Staying.{is_list-with_last}
+use Rattle.sig_json.proofs.StableKinds.{is_list-with_last}
 use Rattle.sig_json.specs.Tree.{document_tree}
 use Rattle.sig_reply.specs.RowsText.{AddsRow, row_tree}
 use Rattle.sig_audit_command.proofs.HeadRows.{sign-done, sign-more, sign-none, sign-past}

@@ -1,6 +1,6 @@
 use Rattle.std.proofs.Common.{◌≡◌, length}
 use Rattle.std.specs.Prelude.{is_some}
-use Rattle.sig_der.specs.Taking.{many_at}
+use Rattle.sig_der.specs.FrontReaders.{many_at}
 use Rattle.sig_certificate.specs.Names.{name_at}
 use Rattle.sig_certificate.proofs.general_names.are_names.Given as goal
 

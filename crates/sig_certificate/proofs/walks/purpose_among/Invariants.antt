@@ -1,7 +1,7 @@
 use Rattle.std.proofs.Common.{◌≡◌, length}
 use Rattle.std.specs.Prelude.{option_map}
 use Rattle.std.specs.Str.{bytes_eq}
-use Rattle.sig_der.specs.Taking.{many_at}
+use Rattle.sig_der.specs.FrontReaders.{many_at}
 use Rattle.sig_certificate.specs.Values.{oid_at, has_purpose}
 use Rattle.sig_certificate.proofs.WalkLaws.{any_more}
 use Rattle.sig_certificate.proofs.walks.purpose_among.Given as goal

@@ -2,7 +2,7 @@
 use Rattle.std.proofs.Common.{rules, arith, option_map, refl, ap, ◌∙◌, ◌+◌, w64, FitsSigned, ℕ, ℤ, List, Option}
 use Rattle.std.proofs.lemmas.Int.{ints, to_z-of_z}
 use Rattle.std.specs.Borrow.{Bor}
-use Rattle.sig_cosign.proofs.Built.{added, found_all, more, only_all, unchanged}
+use Rattle.sig_cosign.proofs.ManifestLayers.{added, found_all, more, only_all, unchanged}
 use Rattle.sig_cosign.specs.Manifest.{first_with}
 use Rattle.sig_cosign.specs.Trust.{trust_in}
 use Rattle.sig_cosign.specs.declared.source.ImageLayer.{ImageLayer}

@@ -1,5 +1,5 @@
 use Rattle.std.proofs.Common.{drop, map, option_map}
-use Rattle.sig_cosign.proofs.Built.{AreBuiltUpTo}
+use Rattle.sig_cosign.proofs.ManifestLayers.{AreBuiltUpTo}
 use Rattle.sig_cosign.specs.Layer.{seen_layer}
 use Rattle.sig_cosign.specs.Trust.{trust_in}
 use Rattle.sig_cosign.proofs.manifest.made_layers.Given as goal

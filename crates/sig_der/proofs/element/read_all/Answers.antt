@@ -6,7 +6,7 @@ use Rattle.sig_base.specs.declared.fault.DerError.TheVariants.{Trailing, WrongTa
 use Rattle.sig_der.specs.declared.element.Element.{Element}
 use Rattle.sig_der.specs.Element.{IsElement}
 use Rattle.sig_der.specs.Reading.{Gives, all_at}
-use Rattle.sig_der.specs.Borrowed.{piece_of}
+use Rattle.sig_der.specs.BorrowedElements.{piece_of}
 use Rattle.sig_der.proofs.Bytes.{IsBytes}
 use Rattle.sig_der.proofs.Steps.{gives_err, err_given}
 use Rattle.sig_der.proofs.Wholes.{all_at_takes, all_at_again, all_at_trailing, trailing_at, all_at_wrong_tag}

@@ -6,7 +6,7 @@ use Rattle.sig_der.specs.declared.element.Element.{Element}
 use Rattle.sig_base.specs.declared.fault.DerError.TheVariants.{Truncated, LongTag, Length}
 use Rattle.sig_der.specs.Element.{StandsFirst}
 use Rattle.sig_der.specs.Reading.{Gives, element_at, fault_of}
-use Rattle.sig_der.specs.Borrowed.{front_of}
+use Rattle.sig_der.specs.BorrowedElements.{front_of}
 use Rattle.sig_der.proofs.Bytes.{IsBytes}
 use Rattle.sig_der.proofs.Elements.{element_at_takes, element_at_again}
 use Rattle.sig_der.proofs.Faults.{element_at_fault}

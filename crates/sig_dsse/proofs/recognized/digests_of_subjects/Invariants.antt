@@ -1,5 +1,5 @@
 use Rattle.std.proofs.Common.{[]}
-use Rattle.sig_dsse.proofs.Collected.{SoFar}
+use Rattle.sig_dsse.proofs.CollectedDigests.{SoFar}
 use Rattle.sig_dsse.specs.Recognized.{map_digests}
 use Rattle.sig_dsse.proofs.recognized.digests_of_subjects.Given as goal
 

@@ -1,4 +1,4 @@
-use Rattle.sig_dsse.proofs.Collected.{SoFar}
+use Rattle.sig_dsse.proofs.CollectedDigests.{SoFar}
 use Rattle.sig_dsse.specs.Recognized.{entry_digest}
 use Rattle.sig_dsse.proofs.recognized.push_entries.Given as goal
 

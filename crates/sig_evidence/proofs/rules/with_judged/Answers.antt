@@ -1,7 +1,7 @@
 -- Why the rule does not hold.
 use Rattle.std.proofs.Common.{◌≡◌, Some, subst}
 use Rattle.std.specs.Prelude.{IfOk}
-use Rattle.sig_bundle.specs.Written.{members, members_into}
+use Rattle.sig_json.specs.Writing.{members, members_into}
 use Rattle.sig_policy.specs.Refusals.{IsRefusalOf}
 use Rattle.sig_evidence.proofs.RuleRefusals.{judgement_is}
 use Rattle.sig_evidence.specs.Rules.{judgement}

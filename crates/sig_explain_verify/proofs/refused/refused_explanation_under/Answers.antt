@@ -1,5 +1,5 @@
 use Rattle.std.proofs.Common.{Ok, None, Some, [], refl, sym, ◌∙◌}
-use Rattle.sig_bundle.specs.Written.{members}
+use Rattle.sig_json.specs.Writing.{members}
 use Rattle.sig_explain_verify.proofs.Rows.{refused}
 use Rattle.sig_explain_verify.specs.Inputs.{inputs_of}
 use Rattle.sig_explain_verify.proofs.refused.refused_explanation_under.Goals as goal

@@ -1,5 +1,5 @@
 use Rattle.std.proofs.Common.{Ok, None, Some, Option, refl, subst}
-use Rattle.sig_bundle.specs.Written.{members}
+use Rattle.sig_json.specs.Writing.{members}
 use Rattle.sig_checked_bundle.specs.Checked.{Checked}
 use Rattle.sig_explain_verify.proofs.ShownRoots.{of_checked}
 use Rattle.sig_explain_verify.specs.Inputs.{inputs_of}

@@ -1,5 +1,5 @@
 use Rattle.std.proofs.Common.{Option, subst}
-use Rattle.sig_base.proofs.Zipped.{zip_more}
+use Rattle.sig_base.proofs.PairedLists.{zip_more}
 use Rattle.sig_certificate.specs.Certificate.{Cert, IsCertificate}
 use Rattle.sig_explain_verify.proofs.ShownRoots.{not_read}
 use Rattle.sig_explain_verify.specs.Parts.{IsReadOne}

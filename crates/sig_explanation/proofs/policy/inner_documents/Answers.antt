@@ -4,10 +4,10 @@ use Rattle.std.proofs.lemmas.List.{take_min}
 use Rattle.std.proofs.lemmas.Option.{get_or_from_slice_get, slice_get_within}
 use Rattle.std.specs.List.{slice_get}
 use Rattle.std.specs.Option.{option_copied}
-use Rattle.sig_bundle.specs.Written.{list_tree}
+use Rattle.sig_json.specs.Writing.{list_tree}
 use Rattle.sig_json.specs.Tree.{document_tree}
 use Rattle.sig_policy.specs.Failures.{failures}
-use Rattle.sig_explanation.specs.Kept.{inner_policy_tree, inner_policy_trees}
+use Rattle.sig_explanation.specs.KeptRows.{inner_policy_tree, inner_policy_trees}
 use Rattle.sig_shown.proofs.Lists.{list_more}
 use Rattle.sig_explanation.proofs.policy.inner_documents.Goals as goal
 

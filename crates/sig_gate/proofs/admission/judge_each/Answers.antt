@@ -1,7 +1,7 @@
 -- One artifact more is judged; and all of them.
 use Rattle.std.proofs.Common.{refl, sym, subst, List}
 use Rattle.std.specs.List.{AllByRecursion, AllZip}
-use Rattle.sig_base.proofs.Zipped.{zip_more}
+use Rattle.sig_base.proofs.PairedLists.{zip_more}
 use Rattle.sig_gate.proofs.Zips.{each-viewed, zip-all, zip-viewed}
 use Rattle.sig_gate.specs.Gate.{IsVerdict}
 use Rattle.sig_gate.specs.declared.verdict.Verdict.{Verdict}

@@ -1,5 +1,5 @@
 use Rattle.std.proofs.Common.{◌≡◌, drop}
-use Rattle.sig_gate.specs.Shown.{entries_of, largest_from}
+use Rattle.sig_gate.specs.VerifiedBundles.{entries_of, largest_from}
 use Rattle.sig_gate.proofs.decision.largest_size.Given as goal
 
 -- the largest size so far, and those that are left, decide

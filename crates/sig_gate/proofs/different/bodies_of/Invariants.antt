@@ -1,6 +1,6 @@
 use Rattle.std.proofs.Common.{◌≡◌, ◌++◌, drop, map}
 use Rattle.sig_gate.specs.RuleHolds.{bodies_of}
-use Rattle.sig_gate.specs.Shown.{entries_of}
+use Rattle.sig_gate.specs.VerifiedBundles.{entries_of}
 use Rattle.sig_gate.proofs.different.bodies_of.Given as goal
 
 -- the bodies so far, and those of the verdicts that are left

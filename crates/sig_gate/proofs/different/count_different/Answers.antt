@@ -1,8 +1,8 @@
 -- The different bodies are as many as the list of them has.
 use Rattle.std.proofs.Common.{ap, length}
-use Rattle.sig_gate.proofs.Counting.{different-counted}
-use Rattle.sig_rekor.proofs.Deduped.{Raw}
-use Rattle.sig_gate.specs.Shown.{entries_of}
+use Rattle.sig_gate.proofs.BodyCounts.{different-counted}
+use Rattle.sig_rekor.proofs.DedupedLists.{Raw}
+use Rattle.sig_gate.specs.VerifiedBundles.{entries_of}
 use Rattle.sig_gate.proofs.different.count_different.Goals as goal
 
 pub returns : goal.returns

@@ -4,10 +4,10 @@ use Rattle.std.specs.List.{list_any}
 use Rattle.std.proofs.lemmas.List.Filters.{dedup_is}
 use Rattle.std.proofs.lemmas.List.Sorted.{list_any-IsPermutation}
 use Rattle.sig_base.proofs.SeenTexts.{list_any_seen}
-use Rattle.sig_rekor.proofs.Deduped.{Raw, same_raw, any_dedup}
-use Rattle.sig_gate.proofs.Sorted.{apart-sorted}
+use Rattle.sig_rekor.proofs.DedupedLists.{Raw, same_raw, any_dedup}
+use Rattle.sig_gate.proofs.SortedTexts.{apart-sorted}
 use Rattle.sig_gate.specs.RuleHolds.{bodies_of}
-use Rattle.sig_gate.specs.Shown.{entries_of}
+use Rattle.sig_gate.specs.VerifiedBundles.{entries_of}
 use Rattle.sig_gate.proofs.different.different_bodies.Goals as goal
 
 pub returns-clause-kept : goal.returns-clause-kept

@@ -1,5 +1,5 @@
 use Rattle.std.proofs.Common.{◌≡◌, drop}
-use Rattle.sig_gate.specs.Shown.{each_holds, one_holds}
+use Rattle.sig_gate.specs.VerifiedBundles.{each_holds, one_holds}
 use Rattle.sig_manifest.specs.Formula.{formulas_of, rules_of, rules_view}
 use Rattle.sig_gate.proofs.holding.+holding.Given as goal
 

@@ -1,6 +1,6 @@
 -- The text of the trusted root is not one.
 use Rattle.std.proofs.Common.{subst}
-use Rattle.sig_gate.proofs.Found.{not_root-found}
+use Rattle.sig_gate.proofs.FoundVerdicts.{not_root-found}
 use Rattle.sig_gate.specs.BundleVerdict.{outside}
 use Rattle.sig_gate.specs.NamedRoots.{IsRootOf}
 use Rattle.sig_gate.specs.declared.named_roots.NamedRoot.{NamedRoot}

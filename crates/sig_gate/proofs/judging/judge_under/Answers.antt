@@ -1,7 +1,7 @@
 -- One bundle more is judged.
 use Rattle.std.proofs.Common.{refl}
-use Rattle.sig_base.proofs.Zipped.{zip_more}
-use Rattle.sig_gate.proofs.Found.{bundle-verdict}
+use Rattle.sig_base.proofs.PairedLists.{zip_more}
+use Rattle.sig_gate.proofs.FoundVerdicts.{bundle-verdict}
 use Rattle.sig_gate.specs.BundleVerdict.{IsBundleVerdict}
 use Rattle.sig_manifest.specs.Artifact.{artifact_view}
 use Rattle.sig_manifest.specs.Manifest.{manifest_view}

@@ -1,8 +1,8 @@
 -- The chain of trust holds, or its first link that fails is known.
 use Rattle.std.proofs.lemmas.Result.{IfOk-weaker}
-use Rattle.sig_gate.proofs.Found.{refused-by, verified-found}
+use Rattle.sig_gate.proofs.FoundVerdicts.{refused-by, verified-found}
 use Rattle.sig_gate.specs.BundleVerdict.{outside}
-use Rattle.sig_gate.specs.Judging.{IsFoundUnder, IsRefusedBy}
+use Rattle.sig_gate.specs.FoundVerdict.{IsFoundUnder, IsRefusedBy}
 use Rattle.sig_gate.specs.declared.named_roots.NamedRoot.TheVariants.{Held}
 use Rattle.sig_verify.specs.Verdict.{checker_of}
 use Rattle.sig_gate.proofs.judging.verify.Goals as goal

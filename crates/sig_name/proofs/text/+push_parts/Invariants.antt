@@ -1,4 +1,4 @@
--- There are fewer parts behind the first.
+-- There are fewer parts after the first.
 use Rattle.std.proofs.Common.{length}
 use Rattle.sig_name.proofs.text.+push_parts.Given as goal
 

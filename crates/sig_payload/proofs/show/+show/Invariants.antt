@@ -2,7 +2,7 @@ use Rattle.std.proofs.Common.{◌≤◌, ◌+◌, ◌*◌}
 use Rattle.sig_json.specs.Data.{depth}
 use Rattle.sig_json.specs.Tree.{tree}
 use Rattle.sig_json.specs.Walk.{members_left}
-use Rattle.sig_payload.proofs.Nesting.{deepest}
+use Rattle.sig_payload.proofs.ValueDepths.{deepest}
 use Rattle.sig_payload.proofs.show.+show.Given as goal
 
 -- the parts of a value are below it

@@ -1,4 +1,4 @@
--- Something is wrong with a text that is no request.
+-- Something is wrong with a text that is not a request.
 use Rattle.std.proofs.Common.{inl}
 use Rattle.sig_program.proofs.Explanations.{explained-replied, its-fault}
 use Rattle.sig_program.proofs.Replies.{unread-reply}

@@ -1,8 +1,8 @@
 -- The tree of the object's document.
 use Rattle.std.proofs.Common.{subst, sym}
 use Rattle.sig_explain_verify.specs.Inputs.{Inputs}
-use Rattle.sig_explain_verify.specs.Refused.{IsRefusedTree}
-use Rattle.sig_bundle.specs.Written.{members}
+use Rattle.sig_explain_verify.specs.RefusedTree.{IsRefusedTree}
+use Rattle.sig_json.specs.Writing.{members}
 use Rattle.sig_json.specs.Data.{object}
 use Rattle.sig_program.specs.Explanation.{shown_inputs}
 use Rattle.sig_program.proofs.explain_verify.refused_document.Goals as goal

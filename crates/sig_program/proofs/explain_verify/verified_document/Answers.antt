@@ -2,7 +2,7 @@
 use Rattle.std.proofs.Common.{subst, sym}
 use Rattle.sig_explain_verify.specs.Inputs.{Inputs}
 use Rattle.sig_explain_verify.specs.Verified.{IsVerifiedTree}
-use Rattle.sig_bundle.specs.Written.{members}
+use Rattle.sig_json.specs.Writing.{members}
 use Rattle.sig_json.specs.Data.{object}
 use Rattle.sig_program.specs.Explanation.{shown_inputs}
 use Rattle.sig_program.proofs.explain_verify.verified_document.Goals as goal

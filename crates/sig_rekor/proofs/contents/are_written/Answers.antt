@@ -1,6 +1,6 @@
 -- No newline at the ends, and no empty line between.
 use Rattle.std.proofs.Common.{◌≤◌, length, ap, not, ◌∙◌, arith}
-use Rattle.sig_rekor.specs.Cut.{trimmed}
+use Rattle.sig_rekor.specs.TextCuts.{trimmed}
 use Rattle.sig_rekor.specs.NoteText.{line_feed}
 use Rattle.sig_rekor.proofs.WrittenLines.{are_written-found, no_cut, not_empty}
 use Rattle.sig_rekor.proofs.contents.are_written.Goals as goal

@@ -1,7 +1,7 @@
 use denote.Shadow.{shadow}
 use denote.Text.{Utf8}
 use Rattle.std.proofs.Common.{◌≡◌, ◌++◌, length}
-use Rattle.sig_rekor.specs.Cut.{parts_between}
+use Rattle.sig_rekor.specs.TextCuts.{parts_between}
 use Rattle.sig_rekor.specs.NoteText.{newline, contents_of}
 use Rattle.sig_rekor.proofs.contents.read_contents.Given as goal
 

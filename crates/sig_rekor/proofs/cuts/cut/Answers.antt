@@ -1,5 +1,5 @@
 -- The cut that `split_once` says.
-use Rattle.sig_rekor.proofs.Cutting.{cut_at-split_once}
+use Rattle.sig_rekor.proofs.CutLaws.{cut_at-split_once}
 use Rattle.sig_rekor.proofs.cuts.cut.Goals as goal
 
 pub returns-clause-cut : goal.returns-clause-cut

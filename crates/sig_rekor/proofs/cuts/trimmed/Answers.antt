@@ -1,5 +1,5 @@
 -- The trims at both ends, one after the other.
-use Rattle.sig_rekor.proofs.Cutting.{trimmed_by_both}
+use Rattle.sig_rekor.proofs.CutLaws.{trimmed_by_both}
 use Rattle.sig_rekor.proofs.cuts.trimmed.Goals as goal
 
 pub returns : goal.returns

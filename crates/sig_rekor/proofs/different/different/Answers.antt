@@ -3,7 +3,7 @@ use Rattle.std.specs.List.{list_any}
 use Rattle.std.proofs.lemmas.List.Filters.{dedup_is}
 use Rattle.std.proofs.lemmas.List.Sorted.{list_any-IsPermutation}
 use Rattle.sig_base.proofs.SeenTexts.{list_any_seen}
-use Rattle.sig_rekor.proofs.Deduped.{Raw, same_raw, any_dedup}
+use Rattle.sig_rekor.proofs.DedupedLists.{Raw, same_raw, any_dedup}
 use Rattle.sig_rekor.proofs.different.different.Goals as goal
 
 -- the sort only moves the raw bytes, and `dedup` keeps one of each

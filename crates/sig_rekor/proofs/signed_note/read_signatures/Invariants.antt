@@ -1,7 +1,7 @@
 use denote.Shadow.{shadow}
 use denote.Text.{Utf8}
 use Rattle.std.proofs.Common.{◌≡◌, length}
-use Rattle.sig_rekor.specs.Cut.{parts_between}
+use Rattle.sig_rekor.specs.TextCuts.{parts_between}
 use Rattle.sig_rekor.specs.CheckpointText.{empty_line, signatures_by, signatures_on}
 use Rattle.sig_rekor.proofs.signed_note.read_signatures.Given as goal
 

@@ -1,7 +1,7 @@
 use Rattle.std.proofs.Common.{Bool, ap, ◌∙◌}
 use Rattle.std.specs.List.{list_any}
 use Rattle.sig_key.specs.Key.{key_accepts}
-use Rattle.sig_rekor.proofs.Deduped.{Raw}
+use Rattle.sig_rekor.proofs.DedupedLists.{Raw}
 use Rattle.sig_rekor.proofs.verify.accepts_one.Goals as goal
 
 -- the different signatures pass the checker's test where all do

@@ -1,6 +1,6 @@
 -- Where the bytes of a read find no memory, they were taken all the same.
 use Rattle.std.proofs.Common.{rules}
-use Rattle.sig_request.proofs.Reading.{TookAtMost-more}
+use Rattle.sig_request.proofs.SourceReads.{TookAtMost-more}
 use Rattle.sig_request.proofs.read.read_request.Goals as goal
 
 pub returns-in_err-extend_from_slice-clause-most : goal.returns-in_err-extend_from_slice-clause-most

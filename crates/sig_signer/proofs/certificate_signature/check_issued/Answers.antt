@@ -1,6 +1,6 @@
 use Rattle.std.proofs.Common.{w64, FitsSigned, arith, rules, ◌∙◌}
 use Rattle.std.proofs.lemmas.Int.{ints, to_z-of_z}
-use Rattle.sig_signer.proofs.Issuing.{issued_err, issued_ok}
+use Rattle.sig_signer.proofs.PoolAnswers.{issued_err, issued_ok}
 use Rattle.sig_signer.proofs.certificate_signature.check_issued.Goals as goal
 
 pub returns-in-Ok : goal.returns-in-Ok

@@ -1,5 +1,5 @@
 use Rattle.std.proofs.Common.{ℕ, List, sym, subst}
-use Rattle.sig_timestamp.specs.Kept.{IsPrecertificate}
+use Rattle.sig_timestamp.specs.KeptExtensions.{IsPrecertificate}
 use Rattle.sig_timestamp.proofs.KeptLaws.{is_precertificate, precertificate_is}
 use Rattle.sig_timestamp.proofs.laws.precertificates.Goals as goal
 

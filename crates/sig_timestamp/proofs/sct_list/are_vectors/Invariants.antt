@@ -1,6 +1,6 @@
 use Rattle.std.proofs.Common.{◌≡◌, length}
 use Rattle.std.specs.Prelude.{is_some}
-use Rattle.sig_der.specs.Taking.{many_at}
+use Rattle.sig_der.specs.FrontReaders.{many_at}
 use Rattle.sig_timestamp.specs.Vectors.{vector_at}
 use Rattle.sig_timestamp.proofs.sct_list.are_vectors.Given as goal
 

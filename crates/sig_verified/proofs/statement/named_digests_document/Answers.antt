@@ -3,7 +3,7 @@ use Rattle.std.proofs.Common.{◌≡◌, ℕ, List, length, min, take, arith, ap
 use Rattle.std.proofs.lemmas.List.{take_min}
 use Rattle.std.proofs.lemmas.Option.{get_or_from_slice_get, slice_get_within}
 use Rattle.std.specs.List.{slice_get}
-use Rattle.sig_bundle.specs.Written.{list_tree}
+use Rattle.sig_json.specs.Writing.{list_tree}
 use Rattle.sig_json.specs.Tree.{document_tree}
 use Rattle.sig_shown.proofs.Lists.{list_more}
 use Rattle.sig_verified.specs.Statement.{named_digest_tree, named_digests_tree}

@@ -1,6 +1,6 @@
 -- What was written so far is the front of the list.
 use Rattle.std.proofs.Common.{◌≡◌, take}
-use Rattle.sig_bundle.specs.Written.{list_tree}
+use Rattle.sig_json.specs.Writing.{list_tree}
 use Rattle.sig_json.specs.Tree.{document_tree}
 use Rattle.sig_verified.specs.Statement.{named_digest_tree}
 use Rattle.sig_verified.proofs.statement.named_digests_document.Given as goal

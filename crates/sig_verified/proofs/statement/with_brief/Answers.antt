@@ -1,8 +1,8 @@
 -- The texts and the subjects that are shown are the statement's.
 use Rattle.std.proofs.Common.{◌++◌, ap, codes, ◌∙◌}
 use Rattle.std.proofs.lemmas.Result.{IfOk-weaker}
-use Rattle.sig_bundle.specs.Written.{members, members_into}
-use Rattle.sig_shown.specs.Shown.{shown_rows}
+use Rattle.sig_json.specs.Writing.{members, members_into}
+use Rattle.sig_shown.specs.ShownValues.{shown_rows}
 use Rattle.sig_verified.specs.Statement.{subjects_rows}
 use Rattle.sig_verified.proofs.statement.with_brief.Goals as goal
 

@@ -1,6 +1,6 @@
 -- The cut that `split_once` says.
 use Rattle.std.proofs.Common.{arith}
-use Rattle.sig_rekor.proofs.Cutting.{cut_at-split_once}
+use Rattle.sig_rekor.proofs.CutLaws.{cut_at-split_once}
 use Rattle.sig_rekor.specs.NoteText.{newline}
 use Rattle.sig_witness.proofs.state_lines.cut_line.Goals as goal
 

@@ -3,7 +3,7 @@ use Rattle.std.proofs.Common.{◌≡◌, ◌∙◌, ◌+◌, List, Some, ℕ, ap
 use Rattle.std.proofs.lemmas.Result.{IfOk-weaker}
 use Rattle.std.specs.Option.{option_map}
 use Rattle.sig_base.specs.ByText.{text_lookup}
-use Rattle.sig_witness.specs.Kept.{log_key}
+use Rattle.sig_witness.specs.KeptLogs.{log_key}
 use Rattle.sig_witness_command.proofs.Listings.{known-origin}
 use Rattle.sig_witness_command.proofs.Marks.{numbered}
 use Rattle.sig_witness_command.specs.Questions.{each_once_after, note_rows}

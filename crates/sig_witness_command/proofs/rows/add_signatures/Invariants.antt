@@ -4,7 +4,7 @@ use Rattle.std.proofs.Common.{◌≡◌, ℕ, List, Some}
 use Rattle.std.specs.Option.{option_map}
 use Rattle.sig_base.specs.ByText.{text_lookup}
 use Rattle.sig_base.specs.declared.checker.AcceptedRow.{AcceptedRow}
-use Rattle.sig_witness.specs.Kept.{log_key}
+use Rattle.sig_witness.specs.KeptLogs.{log_key}
 use Rattle.sig_witness_command.proofs.Listings.{rows_so_far}
 use Rattle.sig_witness_command.specs.Questions.{each_once_after}
 use Rattle.sig_witness_command.specs.RowList.{HasRoom, IsListSoFar}

@@ -10,10 +10,10 @@ use Rattle.sig_certificate.specs.Certificate.{Extension, Cert, IsCertificate}
 use Rattle.sig_certificate.specs.declared.parts.Places.{Places}
 use Rattle.sig_certificate.specs.declared.extensions.ExtensionPlaces.{ExtensionPlaces}
 use Rattle.std.specs.List.{All}
-use Rattle.sig_der.specs.Taking.{many_at}
+use Rattle.sig_der.specs.FrontReaders.{many_at}
 use Rattle.sig_certificate.specs.Places.{parts_of, extension_of, placed_certificate, ArePlaces, AreSpans}
 use Rattle.sig_certificate.specs.declared.listed.Listed.{Listed}
-use Rattle.sig_certificate.specs.Held.{HoldsCertificate, IsRecorded}
+use Rattle.sig_certificate.specs.HeldCertificate.{HoldsCertificate, IsRecorded}
 use Rattle.sig_certificate.specs.Cutting.{Parts, extension_at, HasCertificateParts}
 use Rattle.sig_certificate.proofs.CertificateLaws.{certificate_takes}
 use Rattle.sig_certificate.proofs.Readings.{no_parts, no_list, read, not_read, read_is, all_wider, IsCutAs}

@@ -3,7 +3,7 @@ use Rattle.std.proofs.Common.{sym, ap, ◌∙◌, refl, inr}
 use Rattle.sig_base.specs.ByText.{text_lookup}
 use Rattle.sig_witness.proofs.Entries.{put-all, some-found}
 use Rattle.sig_witness.proofs.Heads.{chain-first}
-use Rattle.sig_witness.specs.Kept.{IsKeptLog}
+use Rattle.sig_witness.specs.KeptLogs.{IsKeptLog}
 use Rattle.sig_witness.proofs.witness.Witness.add_origin.Goals as goal
 
 pub returns-then-is_some-clause-found : goal.returns-then-is_some-clause-found

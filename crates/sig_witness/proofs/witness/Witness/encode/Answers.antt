@@ -3,7 +3,7 @@ use Rattle.std.proofs.Common.{◌≡◌, ◌∙◌, [], string_bytes}
 use Rattle.std.specs.List.{AllByRecursion}
 use Rattle.sig_base.specs.ByText.{KeysAscend}
 use Rattle.sig_witness.proofs.StateWrites.{writing-kept, writing-more, writing-done, writing-values, state-back}
-use Rattle.sig_witness.specs.Kept.{IsKeptLog}
+use Rattle.sig_witness.specs.KeptLogs.{IsKeptLog}
 use Rattle.sig_witness.proofs.witness.Witness.encode.Goals as goal
 
 pub push_lines-requires : goal.push_lines-requires

@@ -3,7 +3,7 @@ use Rattle.std.proofs.Common.{◌≡◌, Some, sym, ap, ◌∙◌}
 use Rattle.std.specs.Option.{option_copied}
 use Rattle.sig_base.specs.ByText.{text_lookup}
 use Rattle.sig_witness.proofs.Entries.{found-all}
-use Rattle.sig_witness.specs.Kept.{IsKeptLog}
+use Rattle.sig_witness.specs.KeptLogs.{IsKeptLog}
 use Rattle.sig_witness.proofs.witness.Witness.head.Goals as goal
 
 pub last_head-requires : goal.last_head-requires

@@ -5,7 +5,7 @@ use Rattle.sig_base.specs.ByText.{text_lookup}
 use Rattle.sig_key.specs.Key.{key_accepts}
 use Rattle.sig_witness.proofs.Entries.{found-all, put-all}
 use Rattle.sig_witness.proofs.UpdateAnswers.{log-kept}
-use Rattle.sig_witness.specs.Kept.{IsKeptLog}
+use Rattle.sig_witness.specs.KeptLogs.{IsKeptLog}
 use Rattle.sig_witness.specs.Updates.{head_of, update_of}
 use Rattle.sig_witness.proofs.witness.Witness.take.Goals as goal
 

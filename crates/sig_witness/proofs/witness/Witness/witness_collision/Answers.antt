@@ -3,7 +3,7 @@ use Rattle.std.proofs.Common.{◌≡◌, Some, sym, ap, ◌∙◌}
 use Rattle.std.specs.Option.{option_copied}
 use Rattle.sig_base.specs.ByText.{text_lookup}
 use Rattle.sig_witness.proofs.Entries.{found-all}
-use Rattle.sig_witness.specs.Kept.{IsKeptLog}
+use Rattle.sig_witness.specs.KeptLogs.{IsKeptLog}
 use Rattle.sig_witness.proofs.witness.Witness.witness_collision.Goals as goal
 
 pub chain_collision-requires-clause-chained : goal.chain_collision-requires-clause-chained

@@ -4,10 +4,10 @@ use Rattle.std.proofs.lemmas.List.{length-map}
 use Rattle.std.specs.List.{list_any}
 use Rattle.sig_base.proofs.SeenTexts.{list_any_seen}
 use Rattle.sig_gate.proofs.DifferentTexts.{HasSome, counted}
-use Rattle.sig_gate.proofs.Sorted.{seen}
+use Rattle.sig_gate.proofs.SortedTexts.{seen}
 use Rattle.sig_gate.specs.RuleHolds.{AreDifferent, HasDifferent, bodies_of}
-use Rattle.sig_gate.specs.Shown.{IsDifferentCount}
-use Rattle.sig_rekor.proofs.Deduped.{Raw}
+use Rattle.sig_gate.specs.VerifiedBundles.{IsDifferentCount}
+use Rattle.sig_rekor.proofs.DedupedLists.{Raw}
 use Rattle.sig_verify.specs.declared.logged_entry.LoggedEntry.{LoggedEntry}
 
 pub different-counted : (entries : List LoggedEntry) (raws : List Raw) (count : ℕ)

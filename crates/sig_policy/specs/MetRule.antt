@@ -2,7 +2,7 @@
 use Rattle.std.specs.List.{All, Any}
 use Rattle.sig_certificate.specs.Certificate.{Cert}
 use Rattle.sig_der.specs.ObjectIdentifiers.{fulcio}
-use Rattle.sig_policy.specs.Held.{HasText, IsNamed}
+use Rattle.sig_policy.specs.CertificateWords.{HasText, IsNamed}
 use Rattle.sig_policy.specs.declared.request.LeafPolicy.{LeafPolicy}
 use Rattle.sig_policy.specs.declared.request.LeafPolicy.TheVariants as rule
 use Rattle.sig_policy.specs.declared.request.RequestPolicy.{RequestPolicy}

@@ -6,7 +6,7 @@ use Rattle.sig_base.specs.Answers.{UnlessMemory}
 use Rattle.sig_base.specs.ByText.{text_lookup}
 use Rattle.sig_base.specs.Rules.{FailsFirst}
 use Rattle.sig_gate.specs.BundleVerdict.{IsBundleVerdict}
-use Rattle.sig_gate.specs.Judging.{IsFound, IsFoundUnder, IsRefusedBy}
+use Rattle.sig_gate.specs.FoundVerdict.{IsFound, IsFoundUnder, IsRefusedBy}
 use Rattle.sig_gate.specs.NamedRoots.{IsRootNamed}
 use Rattle.sig_gate.specs.declared.verdict.BundleVerdict.{BundleVerdict}
 use Rattle.sig_gate.specs.declared.verdict.BundleVerdict.TheVariants.{Verified, Refused}

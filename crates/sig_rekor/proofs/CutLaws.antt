@@ -10,8 +10,8 @@ use denote.Ref.{Bor}
 use Rattle.std.proofs.lemmas.Bool.{cases_eq, cases_lt, eq-eqb, ne_eqb}
 use Rattle.std.specs.Str.Pattern.{CutsPrefixes, CutsSuffixes, IsTrimStartMatches, IsTrimEndMatches, FindsCharPrefix}
 use Rattle.std.specs.Str.Pattern.{FindsCharSuffix, FindsText, SplitsAroundMatch}
-use Rattle.sig_rekor.specs.Cut.{IsTrimmed, Lacks, IsCut, IsParts, without_front, without_back, trimmed}
-use Rattle.sig_rekor.specs.Cut.{after_separator, cut_here, cut_at, parts_of_cut, parts_within, parts_between}
+use Rattle.sig_rekor.specs.TextCuts.{IsTrimmed, Lacks, IsCut, IsParts, without_front, without_back, trimmed}
+use Rattle.sig_rekor.specs.TextCuts.{after_separator, cut_here, cut_at, parts_of_cut, parts_within, parts_between}
 
 -- a separator at the front
 pub after_separator-at : (separator rest : List ℕ) → after_separator separator (separator ++ rest) ≡ Some rest

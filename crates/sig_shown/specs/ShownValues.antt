@@ -4,7 +4,7 @@ use Rattle.std.specs.Fmt.{decimal}
 use Rattle.std.specs.Fmt.Cut.{floor_char_boundary}
 use Rattle.hex.specs.Hex.{encode_lower}
 use Rattle.sig_base.specs.Sha256.{sha256}
-use Rattle.sig_bundle.specs.Written.{TreeMember, integer_tree, list_tree, object_of}
+use Rattle.sig_json.specs.Writing.{TreeMember, integer_tree, list_tree, object_of}
 use Rattle.sig_dsse.specs.Digest.{digest_algorithm, digest_bytes}
 use Rattle.sig_dsse.specs.declared.artifact_digest.ArtifactDigest.{ArtifactDigest}
 use Rattle.sig_json.specs.Data.{Data, string}

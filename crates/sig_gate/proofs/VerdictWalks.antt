@@ -4,7 +4,7 @@ use Rattle.std.proofs.Common.{append_assoc, append-nil}
 use Rattle.std.proofs.Math.Seq.{drop-length}
 use Rattle.std.proofs.lemmas.List.{at_drop_more}
 use Rattle.sig_gate.specs.RuleHolds.{bodies_of}
-use Rattle.sig_gate.specs.Shown.{entries_of, largest_from}
+use Rattle.sig_gate.specs.VerifiedBundles.{entries_of, largest_from}
 use Rattle.sig_gate.specs.declared.verdict.BundleVerdict.{BundleVerdict}
 use Rattle.sig_gate.specs.declared.verdict.BundleVerdict.TheVariants.{Verified, Refused}
 use Rattle.sig_verify.specs.declared.link.Link.{Link}

@@ -6,14 +6,14 @@ use Rattle.sig_audit.specs.declared.error.AuditError.TheVariants as fault
 use Rattle.sig_audit.specs.declared.heads.AuditHead.{AuditHead}
 use Rattle.sig_audit.specs.declared.heads.Watch.{Watch}
 use Rattle.sig_base.specs.Scheme.{scheme_of}
-use Rattle.sig_bundle.specs.Written.{TreeMember, object_of}
+use Rattle.sig_json.specs.Writing.{TreeMember, object_of}
 use Rattle.sig_explain_audit.specs.Audited.{audit_head_tree}
 use Rattle.sig_explain_log.specs.Refusals.{consistency_error_rows, inclusion_error_rows, unread_rows, unsigned_rows}
 use Rattle.sig_json.specs.Data.{Data}
 use Rattle.sig_rekor.specs.CheckpointText.{checkpoint_of}
 use Rattle.sig_request.specs.declared.audit_request.AuditRequest.{AuditRequest}
 use Rattle.sig_request.specs.declared.audit_request.HeadText.{HeadText}
-use Rattle.sig_shown.specs.Shown.{count_row, shown_rows, text_row, texts_row}
+use Rattle.sig_shown.specs.ShownValues.{count_row, shown_rows, text_row, texts_row}
 
 -- the index of the head or of the watched entry, and the link
 abbrev pub link_rows : List ℕ → ℕ → List TreeMember

@@ -11,7 +11,7 @@ use Rattle.std.specs.Ordering.{eq_by_cmp, is_eq, nat_cmp}
 use Rattle.std.specs.Prelude.{bytes_eq, Contains}
 use Rattle.sig_gate.proofs.DifferentTexts.{among-first, none-among}
 use Rattle.sig_gate.specs.RuleHolds.{AreDifferent}
-use Rattle.sig_rekor.proofs.Deduped.{Raw, same_raw}
+use Rattle.sig_rekor.proofs.DedupedLists.{Raw, same_raw}
 
 abbrev pub order : Raw → Raw → Ordering
 order a b = slice_cmp nat_cmp a.now b.now

@@ -1,9 +1,9 @@
 -- *Explanation of a witness run*: of a text that is not a request what is wrong with it; else why it has no logs to start
 -- from; else what is shown of each update.
 use Rattle.std.specs.Prelude.{◌≡◌, ◌⊎◌, ℕ, List, [], ◌∷◌, codes, length, Some}
-use Rattle.sig_bundle.specs.Written.{list_tree, object_of}
+use Rattle.sig_json.specs.Writing.{list_tree, object_of}
 use Rattle.sig_explain_log.specs.Request.{request_tree}
-use Rattle.sig_explain_witness.specs.Refused.{most_unsigned}
+use Rattle.sig_explain_witness.specs.UpdateTrees.{most_unsigned}
 use Rattle.sig_explain_witness.specs.Start.{IsNoStart, no_start_tree}
 use Rattle.sig_explain_witness.specs.Walk.{IsShownWalk, Standing}
 use Rattle.sig_explain_witness.specs.declared.start.NoStart.{NoStart}
@@ -11,7 +11,7 @@ use Rattle.sig_json.specs.Data.{Data}
 use Rattle.sig_request.specs.ReadFrom.{IsRequestOf}
 use Rattle.sig_request_fault.specs.RequestFault.{request_fault_in}
 use Rattle.sig_request_fault.specs.declared.fault.RequestFault.{RequestFault}
-use Rattle.sig_shown.specs.Shown.{count_row}
+use Rattle.sig_shown.specs.ShownValues.{count_row}
 use Rattle.sig_witness_command.specs.Request.{witness_request}
 use Rattle.sig_witness_command.specs.Start.{IsStart, Logs}
 use Rattle.sig_witness_command.specs.declared.request.UpdateText.{UpdateText}

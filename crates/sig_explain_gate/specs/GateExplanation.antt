@@ -1,6 +1,6 @@
 -- *Gate explanation*: what `explain gate` shows of a request's text.
 use Rattle.std.specs.Prelude.{◌≡◌, ◌⊎◌, ℕ, List, [], Option, Some, None}
-use Rattle.sig_bundle.specs.Written.{object_of}
+use Rattle.sig_json.specs.Writing.{object_of}
 use Rattle.sig_explain_gate.specs.Artifact.{IsGateTree}
 use Rattle.sig_explain_log.specs.Request.{request_tree}
 use Rattle.sig_gate_command.specs.Reply.{HasManifest}

@@ -7,7 +7,7 @@ use Rattle.sig_audit.specs.declared.error.AuditError.{AuditError}
 use Rattle.sig_audit.specs.declared.heads.AuditHead.{AuditHead}
 use Rattle.sig_audit_command.specs.Heads.{AreHeads, IsFirstUnread, accepts}
 use Rattle.sig_explain_audit.specs.Audited.{audited_tree}
-use Rattle.sig_explain_audit.specs.Refused.{fault_tree, unread_tree}
+use Rattle.sig_explain_audit.specs.RefusalRows.{fault_tree, unread_tree}
 use Rattle.sig_explain_log.specs.Request.{request_tree}
 use Rattle.sig_json.specs.Data.{Data}
 use Rattle.sig_request.specs.AuditRequest.{audit_request}

@@ -3,7 +3,7 @@ use Rattle.std.specs.Prelude.{ℕ, List, [], ◌∷◌, ◌++◌, codes, length,
 use Rattle.hex.specs.Hex.{encode_lower}
 use Rattle.sig_base.specs.declared.merkle_error.MerkleProofError.{MerkleProofError}
 use Rattle.sig_base.specs.declared.merkle_error.MerkleProofError.TheVariants as merkle
-use Rattle.sig_bundle.specs.Written.{TreeMember, list_tree, object_of}
+use Rattle.sig_json.specs.Writing.{TreeMember, list_tree, object_of}
 use Rattle.sig_certificate.specs.declared.profile_error.CertificateValidationError.{CertificateValidationError}
 use Rattle.sig_certificate.specs.declared.profile_error.CertificateValidationError.TheVariants as validation
 use Rattle.sig_certificate.specs.declared.profile_error.ExtensionErrorKind.{ExtensionErrorKind}
@@ -26,7 +26,7 @@ use Rattle.sig_policy.specs.declared.failure.PolicyErrors.{PolicyErrors}
 use Rattle.sig_verify.specs.declared.offline_error.OfflineError.{OfflineError}
 use Rattle.sig_verify.specs.declared.offline_error.OfflineError.TheVariants as offline
 use Rattle.sig_explanation.specs.Names.{part_name, policy_name}
-use Rattle.sig_shown.specs.Shown.{count_row, shown_rows, text_row, texts_row}
+use Rattle.sig_shown.specs.ShownValues.{count_row, shown_rows, text_row, texts_row}
 
 -- ---- trees of logs
 

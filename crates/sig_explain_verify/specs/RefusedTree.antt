@@ -1,11 +1,11 @@
 -- *Refused tree*: what is shown of a refusal: the error, and what its link compares.
 use Rattle.std.specs.Prelude.{◌≡◌, ℕ, List, [], ◌∷◌, ◌++◌, codes, length}
-use Rattle.sig_bundle.specs.Written.{TreeMember, members_into, object_of}
+use Rattle.sig_json.specs.Writing.{TreeMember, members_into, object_of}
 use Rattle.sig_evidence.specs.Rules.{rules_of}
 use Rattle.sig_json.specs.Data.{Data, Members}
 use Rattle.sig_policy.specs.declared.request.RequestPolicy.{RequestPolicy}
 use Rattle.sig_policy.specs.declared.request.RequestPolicy.TheVariants.{All, Any}
-use Rattle.sig_shown.specs.Shown.{count_row, text_row, texts_row}
+use Rattle.sig_shown.specs.ShownValues.{count_row, text_row, texts_row}
 use Rattle.sig_verify.specs.OfflineErrors.{link_of}
 use Rattle.sig_verify.specs.declared.offline_error.OfflineError.{OfflineError}
 use Rattle.sig_verify.specs.declared.offline_error.OfflineError.TheVariants.{Policy}

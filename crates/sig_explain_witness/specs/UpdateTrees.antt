@@ -2,7 +2,7 @@
 use Rattle.std.specs.Prelude.{ℕ, zero, suc, ◌-◌, List, [], ◌∷◌, ◌++◌, codes, Option, Some, None, option_map, Result, Ok, Err}
 use Rattle.sig_base.specs.ByText.{text_lookup}
 use Rattle.sig_base.specs.declared.checker.AcceptedRow.{AcceptedRow}
-use Rattle.sig_bundle.specs.Written.{TreeMember, object_of}
+use Rattle.sig_json.specs.Writing.{TreeMember, object_of}
 use Rattle.sig_explain_log.specs.Refusals.{consistency_error_rows, unread_rows, unsigned_rows}
 use Rattle.sig_explain_log.specs.Trees.{head_row, head_tree}
 use Rattle.sig_json.specs.Data.{Data}
@@ -10,8 +10,8 @@ use Rattle.sig_key.specs.Key.{key_info, key_scheme}
 use Rattle.sig_key.specs.declared.verification_key.CosignVerificationKey.{CosignVerificationKey}
 use Rattle.sig_rekor.specs.CheckpointText.{checkpoint_of}
 use Rattle.sig_rekor.specs.declared.checkpoint.SignedCheckpoint.{SignedCheckpoint}
-use Rattle.sig_shown.specs.Shown.{count_row, shown_rows, text_row, texts_row}
-use Rattle.sig_witness.specs.Kept.{chain_at, last_of, log_key, size_and_root}
+use Rattle.sig_shown.specs.ShownValues.{count_row, shown_rows, text_row, texts_row}
+use Rattle.sig_witness.specs.KeptLogs.{chain_at, last_of, log_key, size_and_root}
 use Rattle.sig_witness.specs.declared.error.WitnessError.{WitnessError}
 use Rattle.sig_witness.specs.declared.error.WitnessError.TheVariants as fault
 use Rattle.sig_witness_command.specs.Start.{Logs}
