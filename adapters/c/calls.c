@@ -192,7 +192,7 @@ static int in_threads(size_t number) {
     return (int)failed;
 }
 
-/* The library's allocations, counted from 1 in each call: that of the number `refused` is refused, and all behind it too
+/* The library's allocations, counted from 1 in each call: that of the number `refused` is refused, and all after it too
    where it is not refused alone. */
 
 static size_t allocations, refused;

@@ -26,7 +26,7 @@ extern "C" {
 /*
  * The commands. SIGVERIFY_QUESTIONS and a command, added, are that command's questions: which signatures its reply can
  * rest on, as the JSON list that a request has as `accepted`. SIGVERIFY_EXPLAIN and a command, added, are that command's
- * explained reply: its lines, and behind them one line, a JSON object that says why; the status is the command's.
+ * explained reply: its lines, and after them one line, a JSON object that says why; the status is the command's.
  */
 #define SIGVERIFY_LOG 1         /* is this entry in the log, and does the log vouch for it? */
 #define SIGVERIFY_VERIFY 2      /* may this artifact be trusted, by this bundle? */
@@ -41,7 +41,7 @@ extern "C" {
 #define SIGVERIFY_HOLDS 0       /* every link of the command holds; of questions, the list is written */
 #define SIGVERIFY_REFUSED 1     /* a link does not hold: the reply names the first one; of witness, some update is refused;
                                    of gate, some artifact is not admitted */
-#define SIGVERIFY_NO_REQUEST 2  /* the request is none of the command's, or has more than 2^24 bytes */
+#define SIGVERIFY_NO_REQUEST 2  /* the request is not one of the command's, or has more than 2^24 bytes */
 #define SIGVERIFY_NO_COMMAND 64 /* no command has this number */
 #define SIGVERIFY_NO_MEMORY 71  /* malloc or realloc gave none */
 #define SIGVERIFY_NO_ROOM 75    /* the reply has more bytes than there is room for */
@@ -66,7 +66,7 @@ uint32_t sigverify_version(void);
  *                with that much room gives the reply; else 0. It is neither in the request nor in the reply.
  *
  * With a status of 0, 1 or 2 the first `*written` bytes of `reply` are the reply, in ASCII or UTF-8, as the program
- * writes it, with a newline at its end and no 0 behind it. All other bytes of `reply` are as they were: so are all of them
+ * writes it, with a newline at its end and no 0 after it. All other bytes of `reply` are as they were: so are all of them
  * with another status.
  *
  * Only SIGVERIFY_HOLDS says that what was asked holds. A caller that tests for another status, or for the words of a

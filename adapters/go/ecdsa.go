@@ -61,7 +61,7 @@ func isSigned(key *ecdsa.PublicKey, curve elliptic.Curve, digest, signature []by
 	return key != nil && (curve == nil || key.Curve == curve) && ecdsa.VerifyASN1(key, digest, signature)
 }
 
-// spkiKey reads a SubjectPublicKeyInfo; nil where it is no key on one of the three curves, or has other bytes than that.
+// spkiKey reads a SubjectPublicKeyInfo; nil where it is not a key on one of the three curves, or has other bytes than that.
 func spkiKey(spki []byte) *ecdsa.PublicKey {
 	read, err := x509.ParsePKIXPublicKey(spki)
 	key, is := read.(*ecdsa.PublicKey)

@@ -33,7 +33,7 @@ const (
 // Questions is the command that lists the signatures on which the reply of c can rest.
 func (c Command) Questions() Command { return c | C.SIGVERIFY_QUESTIONS }
 
-// Explain is the command whose reply is that of c, and behind it a line, a JSON object that says why.
+// Explain is the command whose reply is that of c, and after it a line, a JSON object that says why.
 func (c Command) Explain() Command { return c | C.SIGVERIFY_EXPLAIN }
 
 // A Status says what a reply is.
@@ -42,7 +42,7 @@ type Status int
 const (
 	Holds     Status = C.SIGVERIFY_HOLDS      // every link of the command holds, or the list of questions is there
 	Refused   Status = C.SIGVERIFY_REFUSED    // the reply names the first link that does not hold, or some update or artifact is refused
-	NoRequest Status = C.SIGVERIFY_NO_REQUEST // the request is none of the command's, or too long
+	NoRequest Status = C.SIGVERIFY_NO_REQUEST // the request is not one of the command's, or too long
 )
 
 // Reasons for no reply.

@@ -27,7 +27,8 @@ Verifies the Sigstore bundles of artifacts, each under the same policy: all of t
 
   --trusted-root FILE             whom to trust: the trusted root of the Sigstore instance, the file trusted_root.json
                                   that cosign, gh and sigstore-python keep
-  --bundle FILE                   the bundle that came with the artifact; without it, ARTIFACT.sigstore.json
+  --bundle FILE                   the bundle that came with the artifact; without it, ARTIFACT.sigstore.json, a regular
+                                  file
   --certificate-identity TEXT     or --identity: who has to have signed, an email, a URI or a name
   --certificate-identity-regexp REGEXP
                                   in place of --certificate-identity: a pattern of Python's re, which one such name has
@@ -48,7 +49,9 @@ Verifies the Sigstore bundles of artifacts, each under the same policy: all of t
 
 A value can also be given as --word=VALUE, and one that begins with - has to be. Each is given at most once. Several
 artifacts have a line each, the reply and then the name. `verify-bundle`, as the first word, is the protocol of
-sigstore-conformance; there --staging changes nothing, since the trusted root is given.
+sigstore-conformance, for one artifact; there --staging changes nothing, since the trusted root is given. A word that is
+also the name of a file in the current folder, as `verify-bundle` or --json may be, is an error; the file is given as
+./verify-bundle or ./--json. A bundle for which more than 1,024 signatures would have to be verified has no reply.
 
 Status: 0 trusted; 1 and 2 not, and the line names the link that fails; 3 there was no reply. Of several artifacts it is
 that of the first that is not trusted.
@@ -66,6 +69,7 @@ NAMES = {"--identity": RULES["identity"], "--issuer": RULES["issuer"],
 def words_of(given):
     """The values by their words, and the artifacts, each with whether it is a file whatever its name is."""
     is_protocol = given[:1] == ["verify-bundle"]
+    check_files(given, is_protocol)
     words, artifacts = read_words(given[is_protocol:], NAMES)
     if "--staging" in words and not is_protocol:
         misused("--staging is a word after verify-bundle alone")
@@ -76,9 +80,23 @@ def words_of(given):
             misused(f"{name} is missing")
     if not artifacts:
         misused("ARTIFACT is missing")
+    if len(artifacts) > 1 and is_protocol:
+        misused(f"verify-bundle is a word before one artifact alone, and not {len(artifacts)}")
     if len(artifacts) > 1 and "--bundle" in words:
         misused(f"--bundle is a word beside one artifact alone, and not {len(artifacts)}")
     return words, artifacts
+
+
+def check_files(given, is_protocol):
+    """No file's name is taken for another word: a shell's pattern hands over names that a stranger chose, and such a file
+    would not be verified. After -- all are files, also one that is named --."""
+    end = given.index("--") if "--" in given else len(given)
+    taken = given[:is_protocol] + [word for word in given[:end] if word.startswith("-") and word != "-"]
+    taken += ["--"] * (end < len(given) and "--" not in given[end + 1:])
+    for word in taken:
+        if os.path.lexists(word):
+            misused(f"{word} is a word here, and there is a file {word}; for the file put ./ before it, and for the word start "
+                    "in another folder")
 
 
 def check_pattern(words):
@@ -93,10 +111,18 @@ def check_pattern(words):
 
 # The parts of a request.
 
-def text_of(path):
+def regular(path):
+    """The file, which is opened without waiting for a writer, and has to be a regular one."""
+    file = open(os.open(path, os.O_RDONLY | os.O_NONBLOCK | os.O_NOCTTY), "rb")
+    if not stat.S_ISREG(os.fstat(file.fileno()).st_mode):
+        sys.exit(f"{path} is not a regular file")
+    return file
+
+
+def text_of(path, opened=lambda path: open(path, "rb")):
     """The file's text, or enough of it for a request that is refused as too long."""
     try:
-        with open(path, "rb") as file:
+        with opened(path) as file:
             content = file.read(MOST_BYTES + 1)
         return codecs.getincrementaldecoder("utf-8")().decode(content, final=len(content) <= MOST_BYTES)
     except OSError as error:
@@ -105,14 +131,11 @@ def text_of(path):
         return sys.exit(f"{path} is not UTF-8")
 
 
-def sha256_of(path, opened, is_file):
-    """Of all that a stream gives. A file has to be a regular one: what came from a pipe was read here, and cannot be
-    installed after it."""
+def sha256_of(path, opened):
+    """Of all that a stream gives."""
     digest = hashlib.sha256()
     try:
-        with open(opened(), "rb") as artifact:
-            if is_file and not stat.S_ISREG(os.fstat(artifact.fileno()).st_mode):
-                sys.exit(f"{path} is not a regular file")
+        with opened(path) as artifact:
             while part := artifact.read(1 << 20):
                 digest.update(part)
     except OSError as error:
@@ -122,17 +145,17 @@ def sha256_of(path, opened, is_file):
 
 def digest_of(artifact, is_file):
     """The digest, as a request has it, and whether a bundle can be beside it. Where a file has the name of a digest or
-    of standard input, nothing is guessed: a shell's pattern hands over the names that a stranger chose."""
+    of standard input, nothing is guessed: a shell's pattern hands over the names that a stranger chose. A file has to be a
+    regular one: what came from a pipe was read here, and cannot be installed after it."""
     if not is_file and (artifact == "-" or artifact.startswith(("sha256:", "sha512:"))):
         if os.path.lexists(artifact):
             misused(f"there is a file {artifact}; for the file put ./ before it")
         if artifact == "-":
-            return "sha256:" + sha256_of("standard input", lambda: 0, False), False
+            return "sha256:" + sha256_of("standard input", lambda _: open(0, "rb")), False
         if not re.fullmatch("sha256:[0-9a-fA-F]{64}|sha512:[0-9a-fA-F]{128}", artifact):
             misused(f"{artifact} is not a digest; for a file of this name put ./ before it")
         return artifact, False
-    way = os.O_RDONLY | os.O_NONBLOCK | os.O_NOCTTY
-    return "sha256:" + sha256_of(artifact, lambda: os.open(artifact, way), True), True
+    return "sha256:" + sha256_of(artifact, regular), True
 
 
 def policy_of(words):
@@ -151,7 +174,8 @@ def requests_of(words):
         digest, has_bundle = digest_of(artifact, is_file)
         if "--bundle" not in words and not has_bundle:
             misused(f"--bundle is missing: none is beside {artifact}")
-        bundle = text_of(words.get("--bundle", f"{artifact}.sigstore.json"))
+        named = [words["--bundle"]] if "--bundle" in words else [f"{artifact}.sigstore.json", regular]
+        bundle = text_of(*named)
         return compact({"trustedRoot": root, "bundle": bundle, "now": now, "digest": digest, "policy": policy})
     return request
 

@@ -13,6 +13,8 @@ from genuine import is_genuine
 from words import misused, read_words, write
 
 MOST_BYTES = 1 << 24  # of a request
+# How many signatures are verified for a request: of one note or one bundle, and of requests that have many.
+MOST_ROWS = {**dict.fromkeys(["log", "verify", "consistency"], 1024), **dict.fromkeys(["audit", "witness", "gate"], 16384)}
 SIGVERIFY = os.path.join(os.path.dirname(os.path.realpath(__file__)), "..", "..", "sigverify")
 HELP = """\
 usage: sigverify-checked [--explain | --json] [--print-request] [--sigverify PROGRAM] COMMAND < REQUEST
@@ -27,7 +29,8 @@ Runs a command of sigverify on a request, of which OpenSSL verifies the signatur
   --print-request      write the request, with `accepted`, to standard output, and the reply to standard error
   --sigverify PROGRAM  else that of this repository, or the installed one
 
-The request is JSON of at most 2^24 bytes, without `accepted`, or with one that does not count.
+The request is JSON of at most 2^24 bytes, without `accepted`, or with one that does not count. There is no
+reply where more than 1,024 signatures would have to be verified; of audit, witness and gate, more than 16,384.
 
 Status: that of the reply, 0 if every link of the command holds, 1 and 2 if not; 3 there was no reply.
 """
@@ -88,22 +91,25 @@ def ended(program, words, request):
 
 
 def run(program, words, request, replies):
-    """The program's reply, and its status. Whatever else the program does is no reply."""
+    """The program's reply, and its status. Whatever else the program does is not a reply."""
     title = " ".join([program, *words])
     status, said = ended(program, words, request)
     if status not in replies:
         sys.exit(f"no reply: {title} ended with status {status}")
     if not re.fullmatch(replies[status], said):
-        sys.exit(f"no reply: what {title} wrote is none of status {status}")
+        sys.exit(f"no reply: what {title} wrote is not a reply of status {status}")
     return said, status
 
 
 def genuine_of(command, listed):
-    """The rows of a list that are genuine."""
+    """The rows of a list that are genuine. One that is too long is refused before any is verified."""
     try:
-        return [row for row in json.loads(listed) if is_genuine(row)]
+        rows = json.loads(listed)
+        if len(rows) > MOST_ROWS[command]:
+            sys.exit(f"no reply: `questions {command}` lists {len(rows):,} signatures, and at most {MOST_ROWS[command]:,} are verified")
+        return [row for row in rows if is_genuine(row)]
     except (AttributeError, KeyError, RecursionError, TypeError, ValueError):
-        return sys.exit(f"no reply: what `questions {command}` wrote is no list of signatures")
+        return sys.exit(f"no reply: what `questions {command}` wrote is not a list of signatures")
 
 
 # A reply to a request with the rows that are accepted, its status, and the JSON that explains it, if that is asked for.

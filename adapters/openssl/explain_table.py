@@ -55,7 +55,7 @@ MATCH = {
     "UnexpectedEmptyProof": "the checkpoint is of a smaller tree than the proof",
     "NewTreeSmaller": "the checkpoint is of a larger tree than the proof"}
 
-# Why a text is no signed note.
+# Why a text is not a signed note.
 NOTE = {
     "Format": "no empty line stands between the note and its signatures",
     "NoDash": "a signature does not begin with an em dash",
@@ -64,12 +64,12 @@ NOTE = {
     "SignatureLength": "a signature has less than four bytes",
     "NoteFormat": "the note has less than three lines",
     "EmptyOrigin": "the note's first line, the log's name, is blank",
-    "Size": "the note's second line is no number below 2^64",
+    "Size": "the note's second line is not a number below 2^64",
     "HashBase64": "the note's third line, the root hash, is not base64",
     "HashLength": "the note's root hash has not 32 bytes"}
 
 
-def behind(name, words):
+def after(name, words):
     """The words for causes that have this name before theirs."""
     return {(name, *(cause if isinstance(cause, tuple) else (cause,))): said for cause, said in words.items()}
 
@@ -84,16 +84,16 @@ REQUEST = {
     ("UnknownOrigin",): "no log of the name {origin} is kept",
     ("OldSize",): "the proof is from {got} entries, and {expected} are kept of the log",
     ("Full",): "4,096 heads of this log were kept in this run, which is the most: hand the update to the next run",
-    **behind("State", {
+    **after("State", {
         "Lines": "the state is not lines in fives, each with its newline",
         "Origin": "in the state a log's name is empty, or not above the one before it in byte order",
-        "Scheme": "in the state the second line of a log is no scheme's name",
+        "Scheme": "in the state the second line of a log is not a scheme's name",
         "Key": "in the state the third line of a log, its key, is not base64",
-        "Size": "in the state the fourth line of a log is no number below 2^64",
+        "Size": "in the state the fourth line of a log is not a number below 2^64",
         "Hash": "in the state the fifth line of a log is not 32 bytes in base64",
         "Root": "in the state a log has no entries, and another root hash than that of none"})}
 
-DOCUMENT = behind("Json", {
+DOCUMENT = after("Json", {
     "NotJson": "{document} is not JSON in UTF-8",
     "Float": "{document} has a number with a point or an exponent, -0, or one outside -2^63 to 2^64 - 1",
     "Member": "of {document}, {fault}"})
@@ -103,18 +103,18 @@ ROOT = {
     ("TrustRoot", "Ctfe"): "the trusted root has no Certificate Transparency log whose validFor holds now",
     ("Anchor",): "the certificate at index {index} of the trusted root's authorities cannot be read, or has name constraints"}
 
-LEAF = behind("NoLeaf", {
+LEAF = after("NoLeaf", {
     "VersionUnsupported": "the signer's certificate is not of version 3",
     "Malformed": "of the signer's certificate an extension cannot be read, or is there twice",
     ("NotLeaf", "IsCA"): "the signer's certificate is an authority's",
-    ("NotCA", "NotCA"): "the certificate is no authority's",
-    ("NotCA", "NotRootCA"): "the certificate is no root's",
+    ("NotCA", "NotCA"): "the certificate is not an authority's",
+    ("NotCA", "NotRootCA"): "the certificate is not a root's",
     ("NotCA", "Invalid"): "of authority and signing of certificates, the certificate has {set}, and not both or none",
     ("Extension", "Missing"): "the signer's certificate has no {part}",
     ("Extension", "NotCritical"): "in the signer's certificate, {part} is not critical",
     ("Extension", "BitUnset"): "the signer's certificate lacks {part}"})
 
-BUNDLE = behind("Bundle", {
+BUNDLE = after("Bundle", {
     "VerificationMaterialMissing": "the bundle has no verification material",
     "VerificationMaterialContentUnsupported": "the bundle has no certificate, but at most a hint at a key",
     "TooManyCertificates": "the bundle has {count} certificates, and at most 17 are read",
@@ -124,7 +124,7 @@ BUNDLE = behind("Bundle", {
     "RootInChain": "a further certificate of the bundle is a root, which only the trusted root may give",
     "SignatureMissing": "the bundle has neither an envelope nor a signature over an artifact",
     "DsseInvalidSignatureCount": "the envelope has {count} signatures, and not one",
-    "DssePayloadDecode": "the envelope's payload is no in-toto statement, or has a float",
+    "DssePayloadDecode": "the envelope's payload is not an in-toto statement, or has a float",
     "DsseTooManySubjects": "the statement has {count} subjects, and at most 1,024 are read",
     "DsseTooManySubjectDigests": "a subject of the statement has {count} digests, and at most 32 are read",
     "DsseSubjectDigestMalformed": "a digest of the statement is not {algorithm} in hexadecimal",
@@ -135,7 +135,7 @@ BUNDLE = behind("Bundle", {
     ("BundleProfile", "Bundle02Profile", "CheckpointMissing"): "a bundle of this version needs a checkpoint in its proof",
     ("BundleProfile", "Unknown"): "the media type {mediaType} is of no version that is read"})
 
-CERTIFICATE = behind("Certificate", {
+CERTIFICATE = after("Certificate", {
     "Malformed": "the certificate is not of the form of one that an authority issues",
     "VerificationFailed": "no path of accepted signatures leads from the certificate to a trust anchor",
     "Expired": "the log took the entry at {integratedTime}, and the certificate was valid from {notBefore} to {notAfter}",
@@ -148,14 +148,14 @@ CERTIFICATE = behind("Certificate", {
     ("Sct", "Verification", "KeyNotFound"): "the trusted root has no key of the SCT's log whose range holds now",
     ("Sct", "Verification", "VerificationFailed"): "the SCT's signature is not accepted under its log's key"})
 
-POLICY = behind("Policy", {
+POLICY = after("Policy", {
     "ExtensionNotFound": "the certificate does not have the extension, once and readable, that the policy asks for",
     "ExtensionCheckFailed": "{rules}",
     "AllOf": "{rules}",
     "AnyOf": "none of the {total} rules of the policy holds: {rules}",
     "Pattern": "signed by {names}, and no such name as a whole matches the pattern {pattern}"})
 
-SIGNATURE = behind("Signature", {
+SIGNATURE = after("Signature", {
     "AlgoUnsupported": "the certificate's key is of a kind that is not supported",
     "VerificationFailed": "the signature over the content is not accepted under the certificate's key",
     "Transparency": "the log's entry is about another signature, content or certificate than the bundle's",
@@ -176,8 +176,8 @@ ENTRY = {
     ("TreeSize",): "the size in the inclusion proof is negative",
     ("CheckpointMissing",): "the inclusion proof has no checkpoint",
     ("CheckpointSignatureVerificationError",): "no signature over the checkpoint is accepted under the log's key",
-    **behind("ParseCheckpointError", NOTE),
-    **behind("InclusionProofError", PATH),
+    **after("ParseCheckpointError", NOTE),
+    **after("InclusionProofError", PATH),
     **{("ConsistencyProofError", name): {"consistency": GROWTH[name], "note-match": MATCH[name]} for name in GROWTH}}
 
 WORDS = {**REQUEST, **DOCUMENT, **ROOT, **BUNDLE, **CERTIFICATE, **POLICY, **SIGNATURE, **ENTRY}

@@ -24,7 +24,7 @@ def read(line):
         found = json.loads(line)
     except (RecursionError, ValueError):
         found = None
-    return found if isinstance(found, dict) else sys.exit("no reply: the last line of `explain` is no object of JSON")
+    return found if isinstance(found, dict) else sys.exit("no reply: the last line of `explain` is not an object of JSON")
 
 
 # Values.
@@ -319,7 +319,7 @@ MORE = {"audit": audited, "witness": witnessed, "gate": gated}
 
 
 def lines_of(command, members):
-    """At most ten lines. None begins with a word that a reply begins with, but for `refused LINK`, which is so in both."""
+    """At most ten lines. None begins with a word that a reply begins with, except for `refused LINK`, which is so in both."""
     if "link" in members:
         of_audit = command == "audit" and "index" in members and members["link"] != "request"
         lines = [*refused(members, f" {members['index']}" if of_audit else "")]

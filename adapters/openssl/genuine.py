@@ -2,7 +2,8 @@
 
 `is_genuine` is what a caller of this module has to trust. It is true of a row only if the library verified the row's
 signature over the row's message, under the row's key, in one of the ways below. It is false of a key under which
-anybody can sign: RSA of few bits or with an exponent that RFC 8017 does not allow, and a point of small order.
+anybody can sign: RSA of few bits or with an exponent that RFC 8017 does not allow, and a point of small order; and of an
+RSA key whose exponent is so long that each signature would take milliseconds.
 """
 import base64
 import collections
@@ -72,18 +73,19 @@ def algorithms():
 ALGORITHMS = algorithms()
 
 
-# What is a key. Under each of those that are none, anybody can sign.
+# What is a key. Under each of those that are not, anybody can sign, or to verify takes long.
 
 LEAST_RSA_BITS = 2048
+MOST_EXPONENT_BITS = 64  # the most that OpenSSL takes of a modulus of more than 3,072 bits
 FIELD = 2 ** 255 - 19  # of Ed25519, RFC 8032 section 5.1, whose curve is -x^2 + y^2 = 1 + D x^2 y^2
 D = -121665 * pow(121666, -1, FIELD) % FIELD
 
 
 def is_rsa(numbers):
     """RFC 8017 section 3.1: an exponent from 3 to n - 1, and odd, as all that have no factor with an even number in
-    common are; and a modulus of enough bits, odd, as the product of odd primes."""
+    common are; and a modulus of enough bits, odd, as the product of odd primes. The exponent is not a long one."""
     return (numbers.n.bit_length() >= LEAST_RSA_BITS and numbers.n % 2 == 1
-            and 3 <= numbers.e < numbers.n and numbers.e % 2 == 1)
+            and 3 <= numbers.e < numbers.n and numbers.e % 2 == 1 and numbers.e.bit_length() <= MOST_EXPONENT_BITS)
 
 
 def has_small_order(encoding):
@@ -121,7 +123,7 @@ def spki_key(spki):
 @functools.lru_cache(MOST_KEYS)
 def point_key(point):
     if point[:1] != b"\x04":
-        raise ValueError("no uncompressed point")
+        raise ValueError("not an uncompressed point")
     return EllipticCurvePublicKey.from_encoded_point(SECP256R1(), point)
 
 

@@ -38,7 +38,7 @@ def compiled(text):
             warnings.simplefilter("error")
             return re.compile(text, re.ASCII)
     except (re.error, OverflowError, RecursionError, ValueError, Warning) as error:
-        return misused(f"{WORD} is no pattern of Python's re: {error}")
+        return misused(f"{WORD} is not a pattern of Python's re: {error}")
 
 
 def identities(names):

@@ -64,7 +64,7 @@ class Signer:
         return self.private.sign(message, padded, chosen)
 
     def sign_digest(self, digest):
-        """Over a SHA-256 digest; Ed25519 over its bytes, which is no signature over the artifact."""
+        """Over a SHA-256 digest; Ed25519 over its bytes, which is not a signature over the artifact."""
         return self.private.sign(digest) if self.kind == "Ed25519" else self.sign(digest, utils.Prehashed(SHA256))
 
 

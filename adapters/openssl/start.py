@@ -9,13 +9,13 @@ NO_REPLY = 3
 
 
 def isolate():
-    """Python, if it was not started as the adapter's first line has it, is started anew; OpenSSL reads the system's
-    settings; and where the caller ignored SIGCHLD, by which each child's status would be lost and read as 0, it is no
-    longer ignored."""
-    import signal
-    signal.signal(signal.SIGCHLD, signal.SIG_DFL)
+    """Python, if it was not started as the adapter's first line has it, is started anew, before anything is imported: a
+    variable of Python may name a folder of other modules. OpenSSL reads the system's settings; and where the caller
+    ignored SIGCHLD, by which each child's status would be lost and read as 0, it is ignored no longer."""
     if not sys.flags.isolated:
         os.execv(sys.executable, [sys.executable, "-I", *["-S"] * sys.flags.no_site, *sys.argv])
+    import signal
+    signal.signal(signal.SIGCHLD, signal.SIG_DFL)
     for name in "OPENSSL_CONF", "OPENSSL_ENGINES", "OPENSSL_MODULES":
         os.environ.pop(name, None)
 

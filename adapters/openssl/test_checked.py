@@ -8,7 +8,7 @@ import tempfile
 
 import signed
 from signed import IDENTITY, ISSUER, NOW, Signed, fixture
-from test_common import CHECKED, HERE, VERIFIED, compare_end, file_of, program_that, run
+from test_common import CHECKED, HERE, VERIFIED, compare_end, file_of, program_that, run, words_of
 
 LIMIT = 1 << 24
 SIZES = 3, 7
@@ -70,7 +70,7 @@ def audits():
         yield "audit", json.load(file), 0, "audited 7 1 40\nprefixes 7\n"
 
 
-# How the update at each place is signed otherwise, the lines of those behind it, and the last that is accepted.
+# How the update at each place is signed otherwise, the lines of those after it, and the last that is accepted.
 SPOILED = (("flip", ["refused old-size 0"] * 3, None), ("stranger", ["refused old-size 2"] * 2, 0), ("another note", ["accepted 9"], 3), ("flip", [], 2))
 
 
@@ -81,11 +81,11 @@ def witnesses():
         signer = signed.signer(kind, "log")
         whole = witnessed(signer, signed_audit.audit(signer)[0])
         yield "witness", whole, 0, lines_of("accepted 2", "accepted 5", "accepted 5", "accepted 9", *state_lines(signer, whole, 3))
-        for place, (by, behind, last) in enumerate(SPOILED):
+        for place, (by, after, last) in enumerate(SPOILED):
             request, _ = signed_audit.audit(signer, place, by)
             claimed = {**witnessed(signer, request), "accepted": signed_audit.claimed(request, signer)}
             said = ["accepted 2", "accepted 5", "accepted 5", "accepted 9"][:place]
-            yield "witness", claimed, 1, lines_of(*said, "refused note-key", *behind, *state_lines(signer, claimed, last))
+            yield "witness", claimed, 1, lines_of(*said, "refused note-key", *after, *state_lines(signer, claimed, last))
     signer = signed.signer("P-256", "log")
     whole = witnessed(signer, signed_audit.audit(signer)[0])
     state = "".join(line + "\n" for line in state_lines(signer, whole, 1)[1:])
@@ -272,4 +272,31 @@ def check_ends(results, program):
         results.compare(f"the output is {output}", (gave[0], gave[1]), (3, ""))
 
 
-PARTS = check_requests, check_texts, check_limit, check_misuse, check_ends
+# What a program may write of each command.
+LINES = {"log": "logged 2 5", "verify": VERIFIED, "consistency": "consistent 3 7", "audit": "audited 1 0 1", "witness": "",
+         "gate": "artifact a admit\nadmitted 1 of 1"}
+
+
+def check_many(results, _):
+    """A list of as many signatures as are verified for a request, and of one more; --help has the numbers."""
+    row = compact(fixture.row("message", "ED25519", b"", b"", b""))
+    with tempfile.TemporaryDirectory() as folder:
+        listed, written = os.path.join(folder, "rows"), os.path.join(folder, "lines")
+        program = program_that(folder, f'if [ "$1" = questions ]; then cat {listed}; else cat {written}; fi')
+        for most, commands in (1024, ("log", "verify", "consistency")), (16384, ("audit", "witness", "gate")):
+            said = f"lists {most + 1:,} signatures, and at most {most:,} are verified"
+            for command in commands:
+                file_of(folder, "lines", f"{LINES[command]}\n".encode())
+                file_of(folder, "rows", b"[" + b",".join([row] * most) + b"]\n")
+                results.compare(f"{command}, {most} rows", ask(program, command, b"{}"), (0, LINES[command] + "\n", ""))
+                file_of(folder, "rows", b"[" + b",".join([row] * (most + 1)) + b"]\n")
+                words = [f"--sigverify={program}", command]
+                compare_end(results, f"{command}, {most + 1} rows", words, said, adapter=CHECKED, input=b"{}")
+            results.compare(f"{most:,} in the help", f"more than {most:,}" in run(["--help"], adapter=CHECKED)[1], True)
+        signed.write(folder, Signed())
+        file_of(folder, "rows", b"[" + b",".join([row] * 1025) + b"]\n")
+        compare_end(results, "a bundle, 1025 rows", words_of(folder, program), "lists 1,025 signatures")
+        results.compare("1,024 in the help", "more than 1,024 signatures" in run(["--help"])[1], True)
+
+
+PARTS = check_requests, check_texts, check_limit, check_misuse, check_ends, check_many

@@ -7,7 +7,8 @@ import tempfile
 
 import signed
 from signed import Signed
-from test_common import ADAPTER, HERE, VERIFIED, compare_end, file_of, program_that, run, words_of
+from test_checked import compact, log_request
+from test_common import ADAPTER, CHECKED, HERE, VERIFIED, compare_end, file_of, program_that, run, words_of
 
 PYTHON = "/usr/bin/python3"
 MODULES = "genuine", "words", "times", "explain_table", "explain_words", "pattern", "checked", "bundle"
@@ -17,7 +18,7 @@ OPENSSL_SETTINGS = b"openssl_conf = all\n[all]\nproviders = named\n[named]\nbase
 FORGED = "import os\nos.write(1, b'verified 2 5\\n')\nos._exit(0)\n"
 
 
-# What is no reply.
+# What is not a reply.
 
 NO_REPLIES = [
     "kill -9 $$", "true", "cat", "echo 1", "echo null", "echo '{}'", "echo '['", "echo '[1]'", "echo '[{}]'",
@@ -209,28 +210,48 @@ def variables_of(place):
         "HOME": place, "TMPDIR": place}
 
 
+def planted_beside(folder):
+    """A folder with such modules, but without those that Python itself loads as it starts, before any line of a program."""
+    os.mkdir(os.path.join(folder, "cryptography"))
+    file_of(folder, os.path.join("cryptography", "__init__.py"), FORGED.encode())
+    for name in ("start", *MODULES, "json", "re", "subprocess", "hashlib", "signal"):
+        file_of(folder, f"{name}.py", FORGED.encode())
+
+
+def adapters_run(folder, place, program):
+    """Of each adapter a run that is refused and one that is trusted: its words, its input, and what is wanted."""
+    other = file_of(place, "other", b"another artifact\n")
+    yield ADAPTER, words_of(folder, program, artifact=other), b"", (1, "refused subject\n", "")
+    yield ADAPTER, words_of(folder, program), b"", (0, VERIFIED + "\n", "")
+    for spoiled, wanted in ("note", (1, "refused note-key\n", "")), (None, (0, "logged 2 5\n", "")):
+        request = compact(log_request(Signed(spoiled=spoiled)))
+        yield CHECKED, [f"--sigverify={program}", "log"], request, wanted
+
+
 def check_environment(results, program):
-    with tempfile.TemporaryDirectory() as folder, tempfile.TemporaryDirectory() as place:
+    with tempfile.TemporaryDirectory() as folder, tempfile.TemporaryDirectory() as place, tempfile.TemporaryDirectory() as beside:
         signed.write(folder, Signed())
         planted(place)
-        other, variables = file_of(place, "other", b"another artifact\n"), variables_of(place)
-        link = os.path.join(place, "sigverify-bundle")
-        os.symlink(ADAPTER, link)
-        for artifact, wanted in (other, (1, "refused subject\n", "")), (folder + "/artifact", (0, VERIFIED + "\n", "")):
-            words = words_of(folder, program, artifact=artifact)
+        planted_beside(beside)
+        variables = variables_of(place)
+        for path in ADAPTER, CHECKED:
+            os.symlink(path, os.path.join(place, os.path.basename(path)))
+        for adapter, words, given, wanted in adapters_run(folder, place, program):
+            link = os.path.join(place, os.path.basename(adapter))
 
-            def compare(title, adapter, start=(), **changed):
+            def compare(title, path, start=(), **changed):
                 environment = {**os.environ, **changed}
-                done = subprocess.run([*start, adapter, *words], capture_output=True, cwd=place, env=environment)
+                done = subprocess.run([*start, path, *words], capture_output=True, cwd=place, env=environment, input=given)
                 gave = done.returncode, done.stdout.decode(), done.stderr.decode()
-                results.compare(f"in a planted folder, {title}", gave, wanted)
+                results.compare(f"in a planted folder, {os.path.basename(adapter)} {title}", gave, wanted)
             for name, value in variables.items():
-                compare(name, ADAPTER, **{name: value})
-            compare("with all variables", ADAPTER, **variables)
+                compare(name, adapter, **{name: value})
+            compare("with all variables", adapter, **variables)
             compare("by a link", link, **variables)
-            compare("by -I", ADAPTER, [PYTHON, "-I"], **variables)
-            compare("by Python's name", ADAPTER, [PYTHON])
+            compare("by -I", adapter, [PYTHON, "-I"], **variables)
+            compare("by Python's name", adapter, [PYTHON])
             compare("by Python's name and a link", link, [PYTHON])
+            compare("by Python's name, with PYTHONPATH", adapter, [PYTHON], PYTHONPATH=beside)
 
 
 PARTS = check_programs, check_signals, check_files, check_streams, check_imports, check_memory, check_environment

@@ -31,7 +31,7 @@ def text_of(*path):
 
 
 def names_in(text):
-    """By the kind of an error the names of its variants; memory that runs out is no cause."""
+    """By the kind of an error the names of its variants; memory that runs out is not a cause."""
     found = {}
     for kind, name in re.findall(r'^(?:opened_)?(\w+)_name (?:\(.*?\)|\S+) = codes "(\w+)"$', text, re.M):
         found.setdefault(kind, []).append(name)
@@ -216,14 +216,14 @@ def check_commands(results, program):
 
 
 def check_texts(results, program):
-    """Texts that are no requests, with a list of their own, and such as have no room for the list."""
+    """Texts that are not requests, with a list of their own, and such as have no room for the list."""
     text = test_checked.compact(test_checked.log_request(Signed()))
     whole = test_checked.ask(program, "log", text, "--print-request")[1].rstrip("\n").encode()
     room = test_checked.LIMIT - len(whole) - len(b',"a":""')
     padded = whole[:-1] + b',"a":"' + b"x" * room + b'"}'  # of 2^24 bytes, with a list that would be accepted
     for title, other, cause in [
             ("no text", b"", ["NotJson"]), ("a float", text[:-1] + b',"logIndex":2.0}', ["Float"]), ("no object", b"[]", ["Member"]),
-            ("a list that is none", text[:-1] + b',"accepted":5}', ["Member"]), ("no room", padded, ["TooLong"]),
+            ("a list that is not one", text[:-1] + b',"accepted":5}', ["Member"]), ("no room", padded, ["TooLong"]),
             ("too long", b" " * (test_checked.LIMIT + 1), ["TooLong"])]:
         status, said, reason = test_checked.ask(program, "log", other, "--json")
         gave = status, said.splitlines()[:1], json.loads(said.splitlines()[-1])["cause"], reason

@@ -76,6 +76,34 @@ def check_strangers_names(results, program):
             os.remove(path)
 
 
+# Words that a file may be named as.
+WORDS = ("verify-bundle", "--explain", "--json", "--print-request", "--staging", "--now=0", "--now", "--bundle=z.sigstore.json",
+         "--certificate-github-workflow-name=test", "--")
+
+
+def check_named_as_words(results, program):
+    """The file of a stranger whose name is a word here, and which a shell's pattern puts before another artifact: nothing
+    is verified, unless it is said to be a file, and then it is."""
+    with tempfile.TemporaryDirectory() as folder:
+        several(folder, ["z", *WORDS])
+        given = words_of(folder, program, bundle=None)[:-1]
+        for name in WORDS:
+            os.remove(os.path.join(folder, name))
+        for name in WORDS:
+            path, wanted = file_of(folder, name, b"another artifact"), f"refused subject {name}\n{VERIFIED} z\n"
+            for words in [name, "z", *given], [name, *given, "z"]:
+                compare_end(results, f"a file {words[:2]}", words, f"there is a file {name}; for the file put ./", cwd=folder)
+            results.compare(f"the file ./{name}", run([f"./{name}", "z", *given], cwd=folder), (1, wanted.replace(name, f"./{name}"), ""))
+            results.compare(f"the file -- {name}", run([*given, "--", name, "z"], cwd=folder), (1, wanted, ""))
+            os.remove(path)
+            os.symlink("/absent", path)
+            compare_end(results, f"a link {name}", [name, "z", *given], f"there is a file {name}", cwd=folder)
+            os.remove(path)
+        file_of(folder, "verify-bundle", b"another artifact")
+        wanted = f"{VERIFIED} z\nrefused subject verify-bundle\n"
+        results.compare("verify-bundle after another", run([*given, "z", "verify-bundle"], cwd=folder), (1, wanted, ""))
+
+
 def check_input(results, program):
     made = Signed()
     with tempfile.TemporaryDirectory() as folder:
@@ -159,9 +187,33 @@ def check_protocol_misused(results, program):
         given, rootless = words_of(folder, program), words_of(folder, program, trusted_root=None)
         for words, said in [(["--staging", *given], "after verify-bundle alone"), (["verify-bundle", "--key=x", *given], "not a word"),
                             (["verify-bundle", "--staging", *rootless], "--trusted-root is missing"),
-                            ([*given, "verify-bundle"], "one artifact alone")]:
+                            ([*given, "verify-bundle"], "one artifact alone"),
+                            (["verify-bundle", *given, "x"], "before one artifact alone, and not 2")]:
             compare_end(results, f"the protocol, {said}", words, said)
+        several(folder, ["a", "b"])
+        words = ["verify-bundle", *words_of(folder, program, bundle=None)[:-1], "a", "b"]
+        compare_end(results, "the protocol, two bundles", words, "before one artifact alone, and not 2", cwd=folder)
 
 
-PARTS = (check_policies, check_digests, check_strangers_names, check_input, check_several, check_protocol,
-         check_protocol_misused)
+def check_beside(results, program):
+    """The bundle beside an artifact is a regular file: for what a stranger put there nobody waits."""
+    with tempfile.TemporaryDirectory() as folder:
+        several(folder, ["a"])
+        words, beside = [*words_of(folder, program, bundle=None)[:-1], "a"], os.path.join(folder, "a.sigstore.json")
+        os.rename(beside, os.path.join(folder, "kept"))
+        os.symlink("kept", beside)
+        results.compare("a link to a bundle", run(words, cwd=folder), (0, VERIFIED + "\n", ""))
+        bounded = ["/usr/bin/timeout", "20"]
+        for title, put in [("a pipe", os.mkfifo), ("/dev/zero", lambda path: os.symlink("/dev/zero", path)),
+                           ("standard input", lambda path: os.symlink("/dev/stdin", path))]:
+            os.remove(beside)
+            put(beside)
+            said = "a.sigstore.json is not a regular file"
+            compare_end(results, f"beside it {title}", words, said, start=bounded, cwd=folder, stdin=subprocess.PIPE)
+        os.remove(beside)
+        os.mkdir(beside)
+        compare_end(results, "beside it a folder", words, "Is a directory", start=bounded, cwd=folder)
+
+
+PARTS = (check_policies, check_digests, check_strangers_names, check_named_as_words, check_input, check_several, check_protocol,
+         check_protocol_misused, check_beside)

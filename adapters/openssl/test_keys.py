@@ -169,24 +169,32 @@ def rooted(primes, exponent, encoded):
     raise AssertionError("no square")
 
 
+def compare_exponent(results, primes, exponent, is_key):
+    """Whether signatures by the exponent are genuine, which the library verifies."""
+    key = rsa_spki(primes[0] * primes[1], exponent)
+    certified = base64_of(identifier("1.2.840.113549.1.1.11", NULL))
+    salted = padding.PSS(mgf=padding.MGF1(signed.SHA256), salt_length=32)
+    for encoded, padded, ways in [
+            (pkcs1_encoding, padding.PKCS1v15(), [("message", "RSA_PKCS1_SHA256"), ("certificate", certified)]),
+            (pss_encoding, salted, [("message", "RSA_PSS_SHA256"), ("certificate", base64_of(PSS))])]:
+        message, signature = rooted(primes, exponent, encoded)
+        taken = verifies(load_der_public_key(key), signature, message, padded, hashes.SHA256())
+        results.compare(f"the library verifies by exponent {exponent}", taken, True)
+        for operation, scheme in ways:
+            gave = is_genuine(row(operation, scheme, key, message, signature))
+            results.compare(f"{operation} by exponent {exponent}, {scheme}", gave, is_key)
+    prehashed = row("prehash", "RSA_PKCS1_SHA256", key, hashlib.sha256(message).digest(), signature)
+    results.compare(f"prehash by exponent {exponent}, of another encoding", is_genuine(prehashed), False)
+
+
 def check_exponents(results, _):
     primes = factors()
     modulus = primes[0] * primes[1]
-    certified = base64_of(identifier("1.2.840.113549.1.1.11", NULL))
-    salted = padding.PSS(mgf=padding.MGF1(signed.SHA256), salt_length=32)
     for exponent in 1, 2, 4, 65536:
-        key = rsa_spki(modulus, exponent)
-        for encoded, padded, ways in [
-                (pkcs1_encoding, padding.PKCS1v15(), [("message", "RSA_PKCS1_SHA256"), ("certificate", certified)]),
-                (pss_encoding, salted, [("message", "RSA_PSS_SHA256"), ("certificate", base64_of(PSS))])]:
-            message, signature = rooted(primes, exponent, encoded)
-            taken = verifies(load_der_public_key(key), signature, message, padded, hashes.SHA256())
-            results.compare(f"the library verifies by exponent {exponent}", taken, True)
-            for operation, scheme in ways:
-                gave = is_genuine(row(operation, scheme, key, message, signature))
-                results.compare(f"{operation} by exponent {exponent}, {scheme}", gave, False)
-        prehashed = row("prehash", "RSA_PKCS1_SHA256", key, hashlib.sha256(message).digest(), signature)
-        results.compare(f"prehash by exponent {exponent}", is_genuine(prehashed), False)
+        compare_exponent(results, primes, exponent, False)
+    # Primes: of 64 bits the largest, of 65 the smallest, and one by which a signature takes some 400 microseconds.
+    for exponent, is_key in (2 ** 64 - 59, True), (2 ** 64 + 13, False), (2 ** 521 - 1, False):
+        compare_exponent(results, primes, exponent, is_key)
     for exponent in 0, modulus, modulus + 2:
         gave = is_genuine(row("message", "RSA_PKCS1_SHA256", rsa_spki(modulus, exponent), MESSAGE, bytes(256)))
         results.compare(f"exponent {exponent}", gave, False)

@@ -104,7 +104,7 @@ def check_misused(results, program):
         compare_end(results, "no value", [*words[1:], WORD], "needs a value")
         compare_end(results, "not UTF-8", [os.fsencode(WORD) + b"=\xff", *words[1:]], "is not UTF-8")
         for text in BAD:
-            compare_end(results, f"the pattern {text[:20]}", given(folder, program, text), "is no pattern of Python's re")
+            compare_end(results, f"the pattern {text[:20]}", given(folder, program, text), "is not a pattern of Python's re")
         for text in SLOW:
             for start in [], ["/bin/sh", "-c", 'trap "" VTALRM; exec "$@"', "sh"]:
                 compare_end(results, f"the pattern {text}", given(folder, program, text), "takes more than 2 seconds", start=start)

@@ -140,7 +140,7 @@ UNTESTED = {
     "the authority's validFor ended before the certificate": ({}, ranged("certificateAuthorities", PAST)),
     "the anchor's own validity is past": (dict(anchor=dict(validity=EXPIRED)), None),
     "the anchor's own validity is to come": (dict(anchor=dict(validity=COMING)), None),
-    "the anchor is no CA": (dict(anchor=dict(extensions=NOT_CA)), None),
+    "the anchor is not a CA": (dict(anchor=dict(extensions=NOT_CA)), None),
     "the anchor may not sign certificates": (dict(anchor=dict(extensions=NO_PURPOSE)), None),
     "the anchor's own signature is broken": (dict(anchor=dict(signature=der(BIT_STRING, b"\0", b"broken"))), None),
     "the log key's range begins after the entry": ({}, ranged("tlogs", BEGUN)),
@@ -189,9 +189,10 @@ def check_other_files(results, program):
     """Files of another kind."""
     with tempfile.TemporaryDirectory() as folder:
         signed.write(folder, Signed())
-        empty = file_of(folder, "empty.json", b"{}")
+        empty, no_rows = file_of(folder, "empty.json", b"{}"), file_of(folder, "list.json", b"[]")
         root, bundle = [os.path.join(folder, f"{name}.json") for name in ("trusted_root", "bundle")]
         for wanted, changes in [("fulcio", {"trusted_root": empty}), ("fulcio", {"trusted_root": bundle}),
+                                ("root-json", {"trusted_root": no_rows}),
                                 ("material", {"bundle": empty}), ("material", {"bundle": root})]:
             gave = run(words_of(folder, program, **changes))
             results.compare(f"other files: {changes}", gave, (1, f"refused {wanted}\n", ""))

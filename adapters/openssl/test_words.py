@@ -75,7 +75,7 @@ def check_misuse(results, program):
 
 
 def check_names(results, program):
-    """Artifacts whose names look like words: nothing is verified without --, and the artifact behind it."""
+    """Artifacts whose names look like words: nothing is verified without --, and the artifact after it."""
     with tempfile.TemporaryDirectory() as folder:
         signed.write(folder, Signed())
         *given, artifact = words_of(folder, program)
@@ -90,6 +90,7 @@ def check_names(results, program):
             results.compare(f"the changed artifact {name!r}", gave, (1, "refused subject\n", ""))
             if os.fsencode(name)[:1] == b"-":
                 compare_end(results, f"no -- before {name!r}", given + [name], "see --help", cwd=folder)
+            os.remove(path)
         split = [part for word in given for part in word.split("=", 1)]
         results.compare("values that stand apart", run(split + [artifact]), (0, VERIFIED + "\n", ""))
         results.compare("the artifact first", run([artifact] + given), (0, VERIFIED + "\n", ""))

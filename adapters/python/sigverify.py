@@ -82,7 +82,7 @@ def number_of(words):
 
 def reply(words, request):
     """The status, 0, 1 or 2, and the text of the reply of a command, as ["verify"], ["questions", "verify"] or
-    ["explain", "verify"], to a request, of bytes. ValueError: the words are no command's; MemoryError; OSError: there is no library."""
+    ["explain", "verify"], to a request, of bytes. ValueError: the words are not a command's; MemoryError; OSError: there is no library."""
     number, request = number_of(words), bytes(request)
     room, written = FIRST_ROOM, ctypes.c_size_t()
     while True:

@@ -57,7 +57,7 @@ fn checked(request: &str) -> Result<(Status, Vec<u8>), Box<dyn Error>> {
             accepted.push(row.get());
         }
     }
-    let end = request.rfind('}').ok_or("the request is no object")?;
+    let end = request.rfind('}').ok_or("the request is not an object")?;
     let (front, brace) = request.split_at(end);
     let answered = format!("{front},\"accepted\":[{}]{brace}", accepted.join(","));
     Ok(reply(Command::Verify, answered.as_bytes())?)

@@ -37,7 +37,7 @@ pub enum Status {
     /// The reply names the first link that does not hold; of `Witness`, some update is refused; of `Gate`, some
     /// artifact is not admitted.
     Refused,
-    /// The request is none of the command's, or too long.
+    /// The request is not one of the command's, or too long.
     NoRequest,
 }
 
