@@ -143,7 +143,7 @@ def root_that_is_none(count):
 
 OWN = {
     "log": (("the last accepted signature is none", last_row), ("the last hash is none", last_hash), ("the last entry is none", last_entry),
-            ("a float behind many hashes", last_float), ("a long origin", long_note)),
+            ("a float after many hashes", last_float), ("a long origin", long_note)),
     "verify": (("the last rule is none", last_rule), ("the last log of the trusted root is none", last_log),
                ("the last log entry of the bundle is none", last_log_entry), ("an issuer's name of many parts", issuer_of_parts),
                ("an issuer's name of one long part", issuer_of_a_long_part), ("a long payload that nobody signed", unsigned_payload),

@@ -179,7 +179,7 @@ def questions(bench):
         bench.goal(f"questions, {name}, time to that at half", took / first, MOST_DOUBLED)
 
 
-# The commands that take the log's own entries: how their requests are made, and the reply but for its second line.
+# The commands that take the log's own entries: how their requests are made, and the reply except for its second line.
 OF_ENTRIES = {
     "log": (own_entries.of_log, lambda size: (f"logged 0 {size}", "entry 0")),
     "consistency": (own_entries.of_growth, lambda size: (f"consistent {size - 1} {size}", f"prefix {size - 1}")),

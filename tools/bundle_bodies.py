@@ -115,7 +115,7 @@ def turned(tree):
 
 
 def changed_body(body, kind, rest, change):
-    """The body with a change; behind `text` it is that text, and `blanks`, `turned` and `escaped` are other texts of the same tree."""
+    """The body with a change; after `text` it is that text, and `blanks`, `turned` and `escaped` are other texts of the same tree."""
     if kind == "text":
         return rest
     if kind == "blanks":
@@ -134,7 +134,7 @@ def changed_body(body, kind, rest, change):
 
 
 def body_lines(request, is_body, digest, line):
-    """A change of the body, or of the leaf, or behind `digest` another digest of the artifact."""
+    """A change of the body, or of the leaf, or after `digest` another digest of the artifact."""
     expected, _, change = line.partition(" ")
     kind, _, rest = change.partition(" ")
     made = request()

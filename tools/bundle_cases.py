@@ -214,7 +214,7 @@ def promises():
 
 
 def cut_leaves():
-    """A certificate is one to its last byte, and no byte is behind it: the fixture's leaf is none where it is cut, at each byte, or has a byte more."""
+    """A certificate is one to its last byte, and no byte comes after it: the fixture's leaf is none where it is cut, at each byte, or has a byte more."""
     group("the fixture's leaf cut at each byte, and with a byte behind it")
     leaf = fixture.Request().leaf_der
     for content in [leaf[:size] for size in range(len(leaf))] + [leaf + b"\0", leaf + leaf[-1:], leaf + leaf]:

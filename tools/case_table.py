@@ -18,7 +18,7 @@ class Table:
         self.rows.append((call, returned))
 
     def line(self, text):
-        """A line of both files, which the program writes as it reads it: one without text, or behind `#`."""
+        """A line of both files, which the program writes as it reads it: one without text, or after `#`."""
         self.case(text, text)
 
     def note(self, text):

@@ -58,7 +58,7 @@ def request(count):
         "treeSize": count,
         "rootHash": root.hex(),
         "hashes": [digest.hex() for digest in path_of(index, entries)],
-        # As the crate writes one: two newlines behind the note, whose last line has its own.
+        # As the crate writes one: two newlines after the note, whose last line has its own.
         "checkpoint": f"{note}\n\n\u2014 demo {coded(bytes([0, 0, 0, 1]) + b'sig')}\n",
         "scheme": row["scheme"],
         "key": row["key"],

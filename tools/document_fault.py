@@ -43,7 +43,7 @@ def required(name, kind):
 
 
 def record(*rows):
-    """An object with these members, which are optional but for those of `required`; null is absent."""
+    """An object with these members, which are optional except for those of `required`; null is absent."""
     def fault(value):
         if not isinstance(value, dict):
             return "OtherKind", ""

@@ -26,7 +26,7 @@ def part(content):
 
 
 def escaped(value):
-    """Section 2.4: the special characters behind a backslash, a null character as two digits, and spaces and a number sign at the ends."""
+    """Section 2.4: the special characters after a backslash, a null character as two digits, and spaces and a number sign at the ends."""
     last = len(value) - 1
     for at, byte in enumerate(value):
         special = byte in b'"+,;<>\\' or byte == 0x20 and at in (0, last) or byte == 0x23 and at == 0

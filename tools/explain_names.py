@@ -7,7 +7,7 @@ import re
 
 DEFINITIONS = pathlib.Path(__file__).resolve().parent.parent / "crates/sig_explanation/specs/Names.antt"
 
-# Which definition names what stands behind a name in a cause; before the first name there is the error of the library call.
+# Which definition names what stands after a name in a cause; before the first name there is the error of the library call.
 FIRST = ""
 BEHIND = {FIRST: "offline_name", "Json": "json_name", "TrustRoot": "trust_part_name", "Bundle": "bundle_name", "NoLeaf": "validation_name",
           "NotLeaf": "not_leaf_name", "NotCA": "not_ca_name", "Extension": "extension_name", "BundleProfile": "profile_name",
@@ -15,7 +15,7 @@ BEHIND = {FIRST: "offline_name", "Json": "json_name", "TrustRoot": "trust_part_n
           "Parsing": "parsing_name", "Verification": "keyring_name", "Signature": "signature_name", "ParseCheckpointError": "checkpoint_name",
           "ConsistencyProofError": "merkle_name", "InclusionProofError": "merkle_name", "Policy": "opened_policy_name"}
 
-MEMORY = "memory that runs out is no explanation: the program ends with status 71"
+MEMORY = "memory that runs out is not an explanation: the program ends with status 71"
 AUTHORITY = "what an authority lacks: a certificate that signs code is none"
 UNSHOWN = {
     **{f"{definition} OutOfMemory": MEMORY for definition in
@@ -35,12 +35,12 @@ def defined():
 
 
 def of_cause(cause, first):
-    """The names of a cause that stands behind this name."""
+    """The names of a cause that stands after this name."""
     return {f"{BEHIND[before]} {name}" for before, name in zip([first, *cause], cause) if before in BEHIND}
 
 
 def names_within(value, first=FIRST):
-    """The names that a value shows, rules of a policy behind the name of their policy."""
+    """The names that a value shows, rules of a policy after the name of their policy."""
     if isinstance(value, list):
         return {name for each in value for name in names_within(each, first)}
     if not isinstance(value, dict):
@@ -55,7 +55,7 @@ def names_in(line):
 
 
 def shape(value):
-    """What an object has, but for the values of its members."""
+    """What an object has, except the values of its members."""
     if isinstance(value, dict):
         return tuple((name, tuple(each) if name == "cause" else each if name in ("link", "part", "state") else shape(each))
                      for name, each in sorted(value.items()))

@@ -5,7 +5,7 @@ import rust_debug
 from explain_shown import shown
 from rust_debug import Variant
 
-# Variants that keep the name of something, which is no cause.
+# Variants that keep the name of something, which is not a cause.
 LAST = ("Missing", "NotCritical", "BitUnset", "DsseSubjectDigestMalformed")
 
 

@@ -403,7 +403,7 @@ class MessageRequest(Request):
 
 class ChainRequest(Request):
     """A request whose leaf was issued by the first of these intermediates, and each by the next, and the last by the trust anchor; so the SCT is
-    over the key of the first. They are the certificates behind the leaf, unless `later` are; the profile is 0.2."""
+    over the key of the first. They are the certificates after the leaf, unless `later` are; the profile is 0.2."""
 
     def __init__(self, over, later=None, stamped=None, media_type="application/vnd.dev.sigstore.bundle+json;version=0.2", **changes):
         super().__init__(media_type=media_type, **changes)
@@ -432,7 +432,7 @@ class MessageChainRequest(MessageRequest):
 
 
 def with_intermediates(made, rows):
-    """The rows of a request whose leaf these intermediates connect to the trust anchor: behind those of other requests, the intermediates'."""
+    """The rows of a request whose leaf these intermediates connect to the trust anchor: after those of other requests, the intermediates'."""
     signed = [made.leaf, *made.over]
     signatures = [row("certificate", base64_of(one["algorithm"]), other["key"], tbs(one), one["signature"][3:])
                   for one, other in zip(signed, [*made.over, made.anchor])]

@@ -16,7 +16,7 @@ GENUINE = ("message", "ED25519", b"key", b"message", b"sig")
 
 
 class Refused(Exception):
-    """The text is no manifest; the text is the error as Rust's Debug prints it."""
+    """The text is not a manifest; the text is the error as Rust's Debug prints it."""
 
 
 # ---- a manifest, as its table has it

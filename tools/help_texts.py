@@ -81,7 +81,7 @@ class Help:
 
 
 def usage_of(block):
-    """The words behind the name of each form of a command line."""
+    """The words after the name of each form of a command line."""
     lines, found = block.removeprefix("usage:").split("\n"), []
     for line in lines:
         if re.match(r" {1,7}sigverify", line):

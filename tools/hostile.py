@@ -132,7 +132,7 @@ def doubled(value, key):
 
 
 def doubled_by_null(value, key):
-    """A member that a later null replaces; of a list, a null behind the element."""
+    """A member that a later null replaces; of a list, a null after the element."""
     if isinstance(value, list):
         return [*value[:key + 1], None, *value[key + 1:]]
     return Pairs([*value.items(), (key, None)])

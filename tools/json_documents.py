@@ -13,7 +13,7 @@ import re
 
 
 class NotJson(Exception):
-    """The text is no UTF-8, or has no reading."""
+    """The text is not UTF-8, or has no reading."""
 
 
 class Float(Exception):
@@ -36,7 +36,7 @@ class Pairs:
 
 
 class Fraction:
-    """A number that is no integer from -2^63 to 2^64 - 1, or `-0`."""
+    """A number that is not an integer from -2^63 to 2^64 - 1, or `-0`."""
 
 
 def number(text):

@@ -1,4 +1,4 @@
-"""Rows of json_cases on texts: numbers, strings, what is no JSON, how deep it nests, and names in every order."""
+"""Rows of json_cases on texts: numbers, strings, what is not JSON, how deep it nests, and names in every order."""
 import itertools
 import json
 import random
@@ -149,7 +149,7 @@ def many_names():
     down = ["z%02d" % place for place in range(33, 0, -1)]
 
     def among(names):
-        """The names before, among and behind others that descend."""
+        """The names before, among and after others that descend."""
         for place in (0, 16, 33):
             order = down[:place] + names + down[place:]
             read_case("{" + ",".join("%s:%d" % (json.dumps(name), value) for value, name in enumerate(order)) + "}")

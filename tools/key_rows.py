@@ -41,7 +41,7 @@ def spkis(made):
                 elif is_identifier(other[start:end]):
                     unsupported.append(other)
     none = [b"", p256[:90], changed(p256, 25, 1),
-            # two parameters, an empty identifier, a byte behind
+            # two parameters, an empty identifier, a byte after it
             bytes.fromhex("300f300906032b65700500050003020001"), bytes.fromhex("30083002060003020001"), bytes.fromhex("300b300506032b65700302000100"),
             b"key"]
     return kinds, unsupported, none

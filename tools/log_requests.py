@@ -23,11 +23,11 @@ SPEC.loader.exec_module(rekor)
 
 
 class NoRequest(Exception):
-    """The text is no request."""
+    """The text is not a request."""
 
 
 class Fraction:
-    """A number that is a float: the text is no request, unless a later member of the same name takes its place."""
+    """A number that is a float: the text is not a request, unless a later member of the same name takes its place."""
 
 
 def refuse(_=None):
@@ -41,7 +41,7 @@ def whole(text):
 
 
 def fraction(text):
-    """A number that rounds to no finite float of 64 bits is no JSON."""
+    """A number that rounds to no finite float of 64 bits is not JSON."""
     return Fraction() if abs(float(text)) != float("inf") else refuse()
 
 
@@ -291,7 +291,7 @@ IGNORED = r"""
 "key":"a2V5" ~ "\u006bey":"a2V5"
 """
 
-# The log's own entries, of the first request: the list, other lists, what is no list of base64.
+# The log's own entries, of the first request: the list, other lists, what is not a list of base64.
 ENTRIES = r"""
 "scheme" ~ "entries":["TDEyMzQ1Ng=="],"scheme"
 "scheme" ~ "entries":[],"scheme"

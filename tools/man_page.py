@@ -19,12 +19,12 @@ def words(text):
 
 
 def line(text):
-    """A line of text, which is no request of roff's."""
+    """A line of text, which is not a request of roff's."""
     return ("\\&" if text.startswith((".", "'")) else "") + escaped(text) + "\n"
 
 
 def sentences(text):
-    """A line for each sentence, as roff sets the space behind one."""
+    """A line for each sentence, as roff sets the space after one."""
     return re.sub(r"(?<=[a-z)`][.?]) (?=[A-Z])", "\n", text).split("\n")
 
 

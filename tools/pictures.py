@@ -59,7 +59,7 @@ def differing(title, pictured, wanted):
     for name in sorted(wanted - pictured):
         yield f"{title} has not the link {name}"
     for name in sorted(pictured - wanted):
-        yield f"{title} has {name}, which is no link there"
+        yield f"{title} has {name}, which is not a link there"
 
 
 # The tree.

@@ -379,7 +379,7 @@ for index, path in itertools.product(range(4), PATHS):
     proof(b"abcd"[index : index + 1], index, TOP, 3, path, [(THREE.encode(), b"sig")], THREE + "\n" + LINE)
 
 if __name__ == "__main__":
-    import rekor_list_rows  # writes its rows behind those of rekor_growth_rows, which writes its own behind those of rekor_model_rows
+    import rekor_list_rows  # writes its rows after those of rekor_growth_rows, which writes its own after those of rekor_model_rows
     import rekor_model_rows
 
     TABLE.line("")

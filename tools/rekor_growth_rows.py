@@ -1,4 +1,4 @@
-"""The rows of crates/rekor_cases on heads of logs and consistency proofs of Rekor's API, which tools/rekor_cases.py writes behind the others.
+"""The rows of crates/rekor_cases on heads of logs and consistency proofs of Rekor's API, which tools/rekor_cases.py writes after the others.
 
 Proofs are made and checked as in tools/consistency_cases.py, by RFC 6962 and by the walk of RFC 9162; hashes, checkpoints and heads are read as in
 tools/rekor_model_rows.py."""

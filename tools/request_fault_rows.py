@@ -79,7 +79,7 @@ def parts(command):
 
 
 def texts(command):
-    """Texts that are no objects, and what is wrong before any member is looked at."""
+    """Texts that are not objects, and what is wrong before any member is looked at."""
     for text in ("", "{", "null", "[]", "1", '"{}"', '{"a":1.5}', '{"a":1.5,"a":1}', '{"entry":1,"a":[1e0]}', '{"a":"\\ud800"}', "{}", "{} x"):
         yield text
 

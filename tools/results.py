@@ -6,7 +6,7 @@
 
 A proof lets a body give up: any contract is met by a body that returns out of memory for one fault alone. So a line of a stored run shows each
 kind of result of each call. A kind is a variant of the call's error type with the variants of what it keeps; numbers, texts and fields do not
-count. The types are read from the sources, so that a new variant is missing here until a table shows it. `OutOfMemory` is no kind: the runs with
+count. The types are read from the sources, so that a new variant is missing here until a table shows it. `OutOfMemory` is not a kind: the runs with
 an allocation refused are about it.
 """
 import collections
@@ -259,7 +259,7 @@ TYPES, ERRORS = read_types()
 
 
 def type_named(crate, name):
-    """The type of this name that a module of the crate sees: its own, or the only one; None where it is no enum."""
+    """The type of this name that a module of the crate sees: its own, or the only one; None where it is not an enum."""
     if (crate, name) in TYPES:
         return crate, name
     found = [each for each in TYPES if each[1] == name]

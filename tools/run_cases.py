@@ -3,7 +3,7 @@
 
 What comes of a run is counted here by the contract of `run`: a request is read until the source gives nothing more, its calls counted from 0;
 the reply is written when it is whole, each call handed all that is left of it; a read that fails writes nothing, and a write that fails leaves
-what was written before it, with status 74 both times; words that are no command, and `demo N`, read nothing. The replies are those of
+what was written before it, with status 74 both times; words that are not a command, and `demo N`, read nothing. The replies are those of
 tools/log_requests.py, tools/consistency_requests.py, tools/audit_requests.py, tools/witness_requests.py, tools/gate_requests.py,
 tools/questions_cases.py, tools/explain_cases.py and, of `demo`, tools/demo_requests.py."""
 import hashlib
@@ -63,7 +63,7 @@ def write(reply, piece, failing, room):
 
 
 def outcome(words, text, source, sink, reply, status):
-    """The line of a run. Of words that are no command, and of `demo`, nothing is read."""
+    """The line of a run. Of words that are not a command, and of `demo`, nothing is read."""
     is_read, left = read(text, *source) if status != 64 and not words.startswith("demo,") else (True, len(text))
     if not is_read:
         return f"{FAULT} - {left}"

@@ -71,5 +71,5 @@ class Reader:
 def read(text):
     reader = Reader(text)
     found = reader.value()
-    assert reader.peek() is None, f"more behind a value: {text}"
+    assert reader.peek() is None, f"more after a value: {text}"
     return found

@@ -94,7 +94,7 @@ def make(witness, each, rows):
 
 
 def made(witness, updates, rows):
-    """What each update returns, behind what those before the last of its times return if they fail."""
+    """What each update returns, after what those before the last of its times return if they fail."""
     for each in updates:
         returned = [make(witness, each, rows) for _ in range(max(each.times, 1))]
         yield each, [one for one in returned[:-1] if not one.isdigit()] + returned[-1:]
@@ -264,7 +264,7 @@ def origins():
     for key in (b"", bytes(300), bytes(range(256))):
         run([], [Origin(f"o{place}", scheme, key) for place, scheme in enumerate(SCHEMES)])
     names = ["b", "a", "ab", "aa", "\u00e9", "z", "~", "B", "a b", "_", "\U0001f600", "\uffee"]
-    everyone = [Origin(name, SCHEMES[place % 6], name.encode()) for place, name in enumerate(names)]
+    everyone = [Origin(name, SCHEMES[place % len(SCHEMES)], name.encode()) for place, name in enumerate(names)]
     run([update(ONE, origin=name) for name in names], everyone)
     run([update(ONE, origin=name) for name in names], everyone[::-1])
 
@@ -371,12 +371,12 @@ def states():
     for one, other in (("a", "a"), ("b", "a"), ("a", "b"), ("a", "aa"), ("aa", "a"), ("a", ""), ("", "a"), ("", ""), ("Z", "a"), ("a", "Z"), ("\u00e9", "z"), ("z", "\u00e9"), ("\U0001f600", "\uffee"), ("\uffee", "\U0001f600")):
         state(lines((one, *GOOD[1:]), (other, *GOOD[1:])))
     TABLE.group("300 origins; one of them out of order, one with a fault")
-    many = [(f"log {place:03}", SCHEMES[place % 6], base64.b64encode(bytes([place % 256] * (place % 5))).decode(), str(place + 1), GOOD[4]) for place in range(300)]
+    many = [(f"log {place:03}", SCHEMES[place % len(SCHEMES)], base64.b64encode(bytes([place % 256] * (place % 5))).decode(), str(place + 1), GOOD[4]) for place in range(300)]
     state(lines(*many))
     state(lines(*many[:299], ("log 298", *many[299][1:])))
     for place in (0, 150, 299):
         state(lines(*many[:place], put(many[place], 3, "07"), *many[place + 1:]))
-    run([], [Origin(f"log {place * 7 % 300:03}", SCHEMES[place % 6], bytes([place % 256])) for place in range(300)])
+    run([], [Origin(f"log {place * 7 % 300:03}", SCHEMES[place % len(SCHEMES)], bytes([place % 256])) for place in range(300)])
 
 
 # ---- sequences by chance

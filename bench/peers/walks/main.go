@@ -2,7 +2,7 @@
 // hashes of as many such checks alone. Prints how often the leaf was accepted, or the hashes led to one value.
 //
 // bench/run builds it with Debian's golang-go and golang-golang-x-mod-dev, and calls it by `walk N` and `hashes N`.
-// 2^62 is the largest size of tlog's: above it, maxpow2 does not end, since 1<<63 is no int64 above zero. So a path has
+// 2^62 is the largest size of tlog's: above it, maxpow2 does not end, since 1<<63 is not an int64 above zero. So a path has
 // 62 hashes.
 package main
 
