@@ -65,13 +65,13 @@ apart Less low high = absurd cc
 apart Equal low high = absurd cc
 apart Greater low high = absurd cc
 
-length_range : (xs : List ℕ) (low high : ℕ) → low ≤ high → high ≤ length xs
+pub length_range : (xs : List ℕ) (low high : ℕ) → low ≤ high → high ≤ length xs
     → length (slice_range xs low high) ≡ high - low
 length_range xs low high le within =
     let rest : length (drop low xs) ≡ length xs - low = length-drop low xs in
     length-take-le (high - low) (drop low xs) (omega (arith, rest))
 
-get_range : (xs : List ℕ) (low high k d : ℕ) → low + k < high
+pub get_range : (xs : List ℕ) (low high k d : ℕ) → low + k < high
     → get_or (slice_range xs low high) k d ≡ get_or xs (low + k) d
 get_range xs low high k d below =
     get_or-take (high - low) (drop low xs) k d (omega arith) ∙ get_or-drop low xs k d

@@ -1,6 +1,7 @@
 -- *Key order*: the trust anchors that a checker is asked about, in the order of SPKI and subject, and the first that has a
 -- subject and one of some keys.
-use Rattle.std.specs.Prelude.{ℕ, List, Bool, ◌&&◌, Option, Some, None, slice_get, nat_le, IsPermutation, if◌then◌else◌}
+use Rattle.std.specs.Prelude.{◌≡◌, ◌<◌, ◌≤◌, ℕ, List, Bool, ◌&&◌, Option, Some, None, length, slice_get, nat_le}
+use Rattle.std.specs.Prelude.{IsPermutation, if◌then◌else◌}
 use Rattle.std.specs.List.{list_any}
 use Rattle.std.specs.Option.{option_cmp, option_map}
 use Rattle.std.specs.Ordering.{nat_cmp, is_lt, on, then_cmp}
@@ -8,6 +9,7 @@ use Rattle.std.specs.Cmp.Lexicographic.{slice_cmp}
 use Rattle.std.specs.List.Sorted.{IsSortedBy}
 use Rattle.std.specs.Str.{bytes_eq}
 use Rattle.std.specs.declared.cmp.Ordering.{Ordering}
+use Rattle.std.specs.declared.cmp.Ordering.TheVariants.{Less, Greater}
 use Rattle.sig_certificate.specs.Certificate.{Cert}
 use Rattle.sig_x509.specs.AskedAnchors.{AreAsked}
 
@@ -39,6 +41,30 @@ pub record IsKeyOrder (anchors : List Cert) (order : List ℕ) : Type 0 where
   pub are_asked : AreAsked anchors asked
   pub moved : IsPermutation asked order
   pub ascends : Ascends anchors order
+
+-- ---- a search
+
+-- how the trust anchor at an index compares with a subject and an SPKI
+abbrev pub compared_at : List Cert → Signer → ℕ → Ordering
+compared_at anchors signer index = option_cmp signer_order (signer_at anchors index) (Some signer)
+
+-- those at the places before this one come before the signer
+abbrev pub AreLessBefore : List Cert → List ℕ → Signer → ℕ → Type 0
+AreLessBefore anchors order signer place =
+    (place ≤ length order) × ((k index : ℕ) → k < place → slice_get order k ≡ Some index
+    → compared_at anchors signer index ≡ Less)
+
+-- those at the places from this one on come after the signer
+abbrev pub AreGreaterFrom : List Cert → List ℕ → Signer → ℕ → Type 0
+AreGreaterFrom anchors order signer place =
+    (k index : ℕ) → place ≤ k → slice_get order k ≡ Some index → compared_at anchors signer index ≡ Greater
+
+-- the signer has no place but from the start to the end
+pub record IsPart (anchors : List Cert) (order : List ℕ) (signer : Signer) (start end : ℕ) : Type 0 where
+  pub before : AreLessBefore anchors order signer start
+  pub after : AreGreaterFrom anchors order signer end
+  pub ordered : start ≤ end
+  pub within : end ≤ length order
 
 -- ---- who has a key
 

@@ -16,9 +16,9 @@ keys-preserved c =
       | in-Some w ↦
           w.first-is
           ∙ w.lesser-first.ensures
-          ∙ ap (λ (o : Option ℕ). lesser o w.first_of_key.result) c.keys.invariant
+          ∙ ap (λ (o : Option ℕ). lesser o w.first_of_key-found.result.first) c.keys.invariant
           ∙ ap (lesser (position (has_some_key c.args.subject.now (take c.keys.index c.args.keys.now)) c.args.anchors.now))
-          w.first_of_key.ensures
+          w.first_of_key-found.ensures
           ∙ one_more_key c.args.subject.now (take c.keys.index c.args.keys.now) w.in-Some.spki.now c.args.anchors.now
           ∙ ap (λ (ks : List (List ℕ)). position (has_some_key c.args.subject.now ks) c.args.anchors.now)
           (sym (taken_more c.args.keys.now c.keys.index w.in-Some.spki.now (sym w.in-Some.ensures)))
