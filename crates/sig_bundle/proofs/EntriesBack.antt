@@ -2,7 +2,7 @@
 use Rattle.std.proofs.Common.{ℕ, pos, List, [], refl}
 use Rattle.std.specs.Prelude.{codes}
 use Rattle.sig_json.specs.Data.{string}
-use Rattle.sig_common.specs.CommonRecord.{log_id_of}
+use Rattle.sig_json.specs.CommonRecord.{log_id_of}
 use Rattle.sig_bundle.specs.BundleRecord.{checkpoint_envelope_of, entry_of, kind_version_of, promise_of}
 use Rattle.sig_bundle.specs.BundleRecord.{proof_of}
 use Rattle.sig_bundle.specs.BundleTree.{checkpoint_members, checkpoint_tree, entry_members, entry_tree}

@@ -2,7 +2,7 @@
 use Rattle.std.proofs.Common.{◌≡◌, ℕ, List, [], Option, Some, None, option_map, refl}
 use Rattle.std.specs.Prelude.{codes}
 use Rattle.sig_json.specs.Data.{Data}
-use Rattle.sig_common.specs.CommonRecord.{certificate_of, chain_of}
+use Rattle.sig_json.specs.CommonRecord.{certificate_of, chain_of}
 use Rattle.sig_bundle.specs.BundleRecord.{bundle_of, content_of, digest_of, entry_of}
 use Rattle.sig_bundle.specs.BundleRecord.{envelope_of, key_hint_of, material_of, message_signature_of, one_content}
 use Rattle.sig_bundle.specs.BundleRecord.{dsse_signature_of, material_content_of}

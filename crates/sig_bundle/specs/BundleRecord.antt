@@ -2,7 +2,7 @@
 -- means where it is absent.
 use Rattle.std.specs.Prelude.{ℕ, List, [], ◌∷◌, codes, Option, Some, option_map, Result, ⊤}
 use Rattle.sig_base.specs.OptionSteps.{◌>>=◌}
-use Rattle.sig_common.specs.CommonRecord.{certificate_of, chain_of, log_id_of}
+use Rattle.sig_json.specs.CommonRecord.{certificate_of, chain_of, log_id_of}
 use Rattle.sig_json.specs.Data.{Data}
 use Rattle.sig_json.specs.Find.{as_object}
 use Rattle.sig_bundle.specs.Oneof.{oneof}

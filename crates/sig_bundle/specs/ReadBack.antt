@@ -1,6 +1,6 @@
 -- For private clauses: the part of an object of which only one member is there is read back.
 use Rattle.std.specs.Prelude.{Option, Some, None, ⊤}
-use Rattle.sig_common.specs.CommonRecord.{certificate_of, chain_of}
+use Rattle.sig_json.specs.CommonRecord.{certificate_of, chain_of}
 use Rattle.sig_bundle.specs.BundleRecord.{envelope_of, message_signature_of}
 use Rattle.sig_bundle.specs.BundleTree.{certificate_tree, chain_tree, envelope_tree, message_tree}
 use Rattle.sig_json.specs.Writing.{IsReadAs}

@@ -9,10 +9,9 @@ ghost use Rattle.sig_json.specs.Tree.{tree};
 use crate::log_entries::SparseEntry;
 use crate::material::{KindVersion, ProofFields, TransparencyLogEntry};
 use sig_base::{Bytes, Entries, Text};
-use sig_common::LogIdReader;
 use sig_json::{
-    BytesReader, ElementReader, Json, MemberError, optional, optional_list, read_bytes, read_i64,
-    read_text,
+    BytesReader, ElementReader, Json, LogIdReader, MemberError, optional, optional_list,
+    read_bytes, read_i64, read_text,
 };
 use std::alloc::Global;
 

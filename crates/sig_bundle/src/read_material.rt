@@ -10,8 +10,9 @@ ghost use Rattle.sig_json.specs.Tree.{tree};
 use crate::log_entries::LogEntries;
 use crate::material::{MaterialContent, VerificationMaterial};
 use crate::read_entry::SparseEntryReader;
-use sig_common::{CertificateReader, ChainReader};
-use sig_json::{ElementReader, Json, MemberError, optional, optional_list};
+use sig_json::{
+    CertificateReader, ChainReader, ElementReader, Json, MemberError, optional, optional_list,
+};
 use std::alloc::Global;
 
 /// Reads hints at keys: objects whose members are not looked at.

@@ -1,7 +1,7 @@
 //! Writers of the entries of transparency logs.
 ghost use Rattle.std.specs.Prelude.{◌≡◌, IfOk, Option};
 ghost use Rattle.sig_json.specs.Data.{Data};
-ghost use Rattle.sig_common.specs.CommonRecord.{log_id_of};
+ghost use Rattle.sig_json.specs.CommonRecord.{log_id_of};
 ghost use Rattle.sig_bundle.specs.BundleRecord.{checkpoint_envelope_of, entry_of, kind_version_of};
 ghost use Rattle.sig_bundle.specs.BundleRecord.{promise_of};
 ghost use Rattle.sig_bundle.specs.BundleRecord.{proof_of};

@@ -1,7 +1,7 @@
 //! Writers of what a bundle brings to check its signature with.
 ghost use Rattle.std.specs.Prelude.{◌≡◌, IfOk, Option};
 ghost use Rattle.sig_json.specs.Data.{Data};
-ghost use Rattle.sig_common.specs.CommonRecord.{certificate_of, chain_of};
+ghost use Rattle.sig_json.specs.CommonRecord.{certificate_of, chain_of};
 ghost use Rattle.sig_bundle.specs.BundleRecord.{material_of};
 ghost use Rattle.sig_bundle.specs.BundleTree.{certificate_tree, chain_tree, material_tree, material_content_member};
 ghost use Rattle.sig_bundle.specs.ReadBack.{MaterialContentIsRead};

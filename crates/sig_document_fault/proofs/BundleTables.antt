@@ -11,7 +11,7 @@ use Rattle.sig_bundle.specs.BundleRecord.{key_hint_of, material_content_of, mate
 use Rattle.sig_bundle.specs.BundleRecord.{one_content}
 use Rattle.sig_bundle.specs.declared.bundle.Content.TheVariants.{MessageSignature, DsseEnvelope}
 use Rattle.sig_bundle.specs.declared.material.MaterialContent.TheVariants.{Certificate, X509CertificateChain, PublicKey}
-use Rattle.sig_common.specs.CommonRecord.{certificate_of, chain_of}
+use Rattle.sig_json.specs.CommonRecord.{certificate_of, chain_of}
 use Rattle.sig_document_fault.proofs.CommonTables.{bytes_is, certificate_is, chain_is, text_is}
 use Rattle.sig_document_fault.proofs.EntryTables.{entry_is}
 use Rattle.sig_document_fault.proofs.Oneofs.{oneof_there}

@@ -4,7 +4,7 @@ use Rattle.sig_json.specs.Kinds.{bytes_of, i64_of, text_of}
 use Rattle.sig_json.specs.Member.{list_each}
 use Rattle.sig_document_fault.proofs.CommonTables.{bytes_is, i64_is, log_id_is, text_is}
 use Rattle.sig_bundle.specs.BundleRecord.{checkpoint_envelope_of, entry_of, kind_version_of, promise_of, proof_of}
-use Rattle.sig_common.specs.CommonRecord.{log_id_of}
+use Rattle.sig_json.specs.CommonRecord.{log_id_of}
 use Rattle.sig_document_fault.specs.BundleTable.{checkpoint_table, entry_table, kind_version_table, promise_table}
 use Rattle.sig_document_fault.specs.BundleTable.{proof_table}
 use Rattle.sig_document_fault.specs.CommonTable.{log_id_table}

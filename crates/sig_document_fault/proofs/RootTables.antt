@@ -4,7 +4,7 @@ use Rattle.sig_json.specs.Data.{Data}
 use Rattle.sig_json.specs.Find.{as_object}
 use Rattle.sig_json.specs.Kinds.{bytes_of}
 use Rattle.sig_json.specs.Member.{list_each, optional}
-use Rattle.sig_common.specs.CommonRecord.{chain_of, log_id_of}
+use Rattle.sig_json.specs.CommonRecord.{chain_of, log_id_of}
 use Rattle.sig_document_fault.proofs.CommonTables.{bytes_is, chain_is, log_id_is}
 use Rattle.sig_document_fault.specs.CommonTable.{chain_table, log_id_table}
 use Rattle.sig_document_fault.specs.RootTable.{authority_table, instance_table, public_key_table, range_table}

@@ -1,5 +1,6 @@
 pub mod Builders
 pub mod Causes
+pub mod CommonRecord
 pub mod Document
 pub mod Gathered
 pub mod Integer

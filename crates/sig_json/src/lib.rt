@@ -27,7 +27,7 @@
 //! - `Json`, a view, shows what the tree is; the members of an object come in the byte order of their names. What
 //!   writes the whole tree takes it as a `Tree`, level by level.
 //! - A reader returns what the member means by its row of a table, and fails with `Member` if and only if the member
-//!   breaks that row.
+//!   breaks that row. The records that a bundle and a trusted root both have are read so too.
 //! - An `Object`, which is written member by member, has the members that were set. What an `ElementWriter` writes is
 //!   read back by the reader that it names, and so is a list of it.
 //!
@@ -40,6 +40,7 @@ mod borrowed_document;
 mod build;
 mod change;
 mod closed;
+mod common;
 mod copy;
 mod document;
 mod element;
@@ -72,6 +73,7 @@ mod write_value;
 
 pub use any::AnyReader;
 pub use borrowed_document::BorrowedDocument;
+pub use common::{CertificateReader, ChainReader, LogIdReader};
 pub use document::Document;
 pub use element::{ElementReader, optional, optional_list, read_list, required, required_list};
 pub use error::{DocumentError, JsonError, MemberError};

@@ -4,7 +4,7 @@ use Rattle.std.specs.Prelude.{ℕ, ℤ, List, codes, Option, Some, Result, Ok, E
 use Rattle.sig_base.specs.OptionSteps.{◌>>=◌}
 use Rattle.sig_base.specs.declared.error.SigstoreError.{SigstoreError}
 use Rattle.sig_base.specs.declared.error.SigstoreError.TheVariants.{SerdeJsonError}
-use Rattle.sig_common.specs.CommonRecord.{chain_of, log_id_of}
+use Rattle.sig_json.specs.CommonRecord.{chain_of, log_id_of}
 use Rattle.sig_json.specs.Data.{Data}
 use Rattle.sig_json.specs.Kinds.{bytes_of, text_of}
 use Rattle.sig_json.specs.Member.{optional, optional_list}

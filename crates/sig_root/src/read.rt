@@ -9,10 +9,10 @@ ghost use Rattle.sig_root.specs.RootRecord.{range_of, time_of, trusted_root_in, 
 
 use crate::record::{PublicKey, TimeRange, TrustedRoot};
 use crate::sparse::{SparseAuthority, SparseInstance};
-use sig_common::{ChainReader, LogIdReader};
 use sig_der::rfc3339_second;
 use sig_json::{
-    BytesReader, ElementReader, Json, JsonError, MemberError, optional, optional_list, read_record,
+    BytesReader, ChainReader, ElementReader, Json, JsonError, LogIdReader, MemberError, optional,
+    optional_list, read_record,
 };
 use std::alloc::Global;
 

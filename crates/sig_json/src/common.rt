@@ -1,18 +1,31 @@
-//! Readers of the records, each of one kind of value.
+//! Records that a bundle and a trusted root both have (the package `sigstore.common.v1` of Sigstore's formats):
+//! certificates, chains of them, and ids of logs.
+//!
+//! ```text
+//! {"rawBytes":"MIIB.."}
+//! {"certificates":[{"rawBytes":"MIIB.."},{"rawBytes":"MIIC.."}]}
+//! {"keyId":"wNI9.."}
+//! ```
+//!
+//! What a reader reads is what the definition of its record says of the value, and it fails if and only if the
+//! definition says nothing. A member that is absent is as an empty one.
 ghost use Rattle.std.specs.Prelude.{Option};
 ghost use Rattle.sig_json.specs.Data.{Data};
 ghost use Rattle.sig_json.specs.Tree.{tree};
-ghost use Rattle.sig_common.specs.CommonRecord.{certificate_of, chain_of, log_id_of};
+ghost use Rattle.sig_json.specs.CommonRecord.{certificate_of, chain_of, log_id_of};
 
+use crate::element::{ElementReader, optional_list};
+use crate::error::MemberError;
+use crate::member::read_bytes;
+use crate::view::Json;
 use sig_base::{Bytes, Entries};
-use sig_json::{ElementReader, Json, MemberError, optional_list, read_bytes};
 use std::alloc::Global;
 
 /// Reads certificates (X509Certificate), as their DER: `rawBytes`.
 pub enum CertificateReader {}
 
 impl ElementReader for CertificateReader {
-    ghost use Rattle.sig_common.specs.CommonRecord.{certificate_of};
+    ghost use Rattle.sig_json.specs.CommonRecord.{certificate_of};
 
     type Item = Bytes;
 
@@ -27,7 +40,7 @@ impl ElementReader for CertificateReader {
 pub enum ChainReader {}
 
 impl ElementReader for ChainReader {
-    ghost use Rattle.sig_common.specs.CommonRecord.{chain_of};
+    ghost use Rattle.sig_json.specs.CommonRecord.{chain_of};
 
     type Item = Entries;
 
@@ -43,7 +56,7 @@ impl ElementReader for ChainReader {
 pub enum LogIdReader {}
 
 impl ElementReader for LogIdReader {
-    ghost use Rattle.sig_common.specs.CommonRecord.{log_id_of};
+    ghost use Rattle.sig_json.specs.CommonRecord.{log_id_of};
 
     type Item = Bytes;
 
