@@ -19,6 +19,9 @@ use std::alloc::Global;
 /// Reads texts.
 pub enum TextReader {}
 
+/// Reads texts as the bytes that they are.
+pub enum TextBytesReader {}
+
 /// Reads bytes written as padded standard base64 (RFC 4648 section 4).
 pub enum BytesReader {}
 
@@ -39,6 +42,22 @@ impl ElementReader for TextReader {
     fn read(alloc: Global, json: Json<'_, '_>) -> Result<Text, MemberError> {
         match json.text() {
             Some(text) => Ok(Text::copy_of(alloc, text)?),
+            None => Err(MemberError::Member),
+        }
+    }
+}
+
+impl ElementReader for TextBytesReader {
+    ghost use Rattle.sig_json.specs.Kinds.{text_of};
+
+    type Item = Bytes;
+
+    ghost meaning = { text_of };
+
+    #[tactic(auto, unfolding(crate::specs::Kinds::text_of))]
+    fn read(alloc: Global, json: Json<'_, '_>) -> Result<Bytes, MemberError> {
+        match json.text() {
+            Some(text) => Ok(Bytes::copy_of(alloc, text.as_bytes())?),
             None => Err(MemberError::Member),
         }
     }

@@ -78,7 +78,7 @@ pub use document::Document;
 pub use element::{ElementReader, optional, optional_list, read_list, required, required_list};
 pub use error::{DocumentError, JsonError, MemberError};
 pub use json::Scratch;
-pub use kind::{BytesReader, HashReader, TextMapReader, TextReader};
+pub use kind::{BytesReader, HashReader, TextBytesReader, TextMapReader, TextReader};
 pub use member::{
     read_bytes, read_i64, read_text, read_u64, required_bytes, required_hash, required_i64,
     required_text, required_u64,

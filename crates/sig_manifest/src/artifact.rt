@@ -1,15 +1,15 @@
 //! `Artifact`: one artifact of a manifest.
 ghost use Rattle.std.specs.Prelude.{◌≡◌};
-ghost use Rattle.sig_json.specs.Kinds.{text_of};
 ghost use Rattle.sig_json.specs.SeenAs.{value_by};
 ghost use Rattle.sig_manifest.specs.Artifact.{are_graphic, artifact_of, artifact_view, is_name, name_kind};
 
 use crate::read_rule::RuleReader;
 use crate::rule::Rule;
-use sig_base::{Bytes, Entries, OwnedList, Text};
+use sig_base::{Entries, OwnedList, Text};
 use sig_dsse::ArtifactDigest;
 use sig_json::{
-    ElementReader, Json, MemberError, TextReader, optional_list, required, required_text,
+    ElementReader, Json, MemberError, TextBytesReader, TextReader, optional_list, required,
+    required_text,
 };
 use sig_request::ArtifactDigestReader;
 use std::alloc::Global;
@@ -73,23 +73,6 @@ fn are_graphic(bytes: &[u8]) -> bool
     ensures { result ≡ are_graphic bytes.now }
 {
     bytes.iter().all(|byte| 0x20 < *byte && *byte < 0x7f)
-}
-
-/// Reads texts as their bytes.
-enum TextBytesReader {}
-
-impl ElementReader for TextBytesReader {
-    type Item = Bytes;
-
-    ghost meaning = { text_of };
-
-    #[tactic(auto, unfolding(sig_json::specs::Kinds::text_of))]
-    fn read(alloc: Global, json: Json<'_, '_>) -> Result<Bytes, MemberError> {
-        match json.text() {
-            Some(text) => Ok(Bytes::copy_of(alloc, text.as_bytes())?),
-            None => Err(MemberError::Member),
-        }
-    }
 }
 
 /// Reads artifacts.

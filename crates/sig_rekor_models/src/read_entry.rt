@@ -3,7 +3,6 @@ ghost use Rattle.std.specs.Prelude.{Option};
 ghost use Rattle.sig_base.specs.Answers.{Answers};
 ghost use Rattle.sig_base.specs.declared.error.SigstoreError.TheVariants.{OutOfMemory as Memory};
 ghost use Rattle.sig_json.specs.Data.{Data};
-ghost use Rattle.sig_json.specs.Kinds.{text_of};
 ghost use Rattle.sig_json.specs.OrMember.{or_member};
 ghost use Rattle.sig_json.specs.SeenAs.{value_by};
 ghost use Rattle.sig_json.specs.Tree.{tree};
@@ -13,30 +12,13 @@ ghost use Rattle.sig_rekor_models.specs.LogEntry.{placed_of, rekor_proof_of, see
 
 use crate::log_entry::{Attestation, LogEntry, Verification};
 use crate::read_body::CodedBodyReader;
-use sig_base::{Bytes, Entries, SigstoreError, Text};
+use sig_base::{Entries, SigstoreError, Text};
 use sig_json::{
-    ElementReader, I64NumberReader, Json, JsonError, MemberError, TextReader, U64NumberReader,
-    optional, read_record, required, required_list, required_text,
+    ElementReader, I64NumberReader, Json, JsonError, MemberError, TextBytesReader, TextReader,
+    U64NumberReader, optional, read_record, required, required_list, required_text,
 };
 use sig_rekor::RekorInclusionProof;
 use std::alloc::Global;
-
-/// Reads texts as the bytes that they are.
-enum TextBytesReader {}
-
-impl ElementReader for TextBytesReader {
-    type Item = Bytes;
-
-    ghost meaning = { text_of };
-
-    #[tactic(auto, unfolding(sig_json::specs::Kinds::text_of))]
-    fn read(alloc: Global, json: Json<'_, '_>) -> Result<Bytes, MemberError> {
-        match json.text() {
-            Some(text) => Ok(Bytes::copy_of(alloc, text.as_bytes())?),
-            None => Err(MemberError::Member),
-        }
-    }
-}
 
 /// Reads inclusion proofs.
 enum RekorProofReader {}
