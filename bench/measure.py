@@ -8,6 +8,10 @@ import sys
 import tempfile
 
 TOP = pathlib.Path(__file__).resolve().parent.parent
+sys.path.append(str(TOP / "tools"))
+
+from floors import below, dependencies, sources
+
 PEERS = TOP / "bench/peers"
 SMALL = 2**20  # the time over a file of fewer bytes is the best of ten times as many runs
 
@@ -147,25 +151,6 @@ def megabytes(words, path, status=0):
     return used.ru_maxrss / 1024
 
 
-def below(crate):
-    """The crates of this repository that a crate is built of, itself included."""
-    lines = (TOP / "crates.txt").read_text().splitlines()
-    on = {line.split(":")[0].split()[0]: line.split(":")[1].split() for line in lines if ":" in line and line[0] != "#"}
-    found = [crate]
-    for name in found:
-        found += [other for other in on[name] if other in on and other not in found]
-    return found
-
-
-def sources(crate):
-    """What a crate is built of: files, and folders, which are newer where a file of them is gone."""
-    yield TOP / "crates.txt"
-    for folder in (TOP / "crates" / name / part for name in below(crate) for part in ("src", "specs")):
-        if folder.is_dir():
-            yield folder
-            yield from folder.rglob("*")
-
-
 def built(crate, named=None):
     """The program of a crate, or the one that was named in its place. Ends this program where it is not there, or where
     a source is newer than it, or than the stamp that ./sigverify made before the build; of a named one, which may be
@@ -175,7 +160,8 @@ def built(crate, named=None):
         fail(f"{program} is not there: .ci/run builds it")
     stamp = program.parent / "sources.stamp"
     since = min(path.stat().st_mtime_ns for path in (program, stamp) if path.exists())
-    newer = next((path for path in sources(crate) if path.stat().st_mtime_ns > since), None)
+    built_of = sources([crate, *below(dependencies(), crate)])
+    newer = next((path for path in built_of if path.stat().st_mtime_ns > since), None)
     if newer:
         said = f"{program} is older than {newer.relative_to(TOP)}"
         if not named:

@@ -4,7 +4,8 @@
     tools/floors.py          writes the picture into the document, in place of the one that is there
     tools/floors.py check    says whether the one that is there is that of crates.txt
 
-Crates for tests are left out, and so is a line to a crate that another one of the same crate leads to."""
+Crates for tests are left out, and so is a line to a crate that another one of the same crate leads to. Other programs have
+from here what crates.txt says, and of which files a crate is built."""
 import pathlib
 import sys
 
@@ -17,21 +18,40 @@ def is_for_tests(crate):
     return crate.endswith("_cases") or crate == "sig_bench"
 
 
+def dependencies():
+    """What each crate depends on, of this repository and of the kit."""
+    lines = (line.partition("#")[0] for line in (TOP / "crates.txt").read_text().splitlines())
+    rows = (line.partition(":") for line in lines if ":" in line)
+    return {name.split()[0]: on.split() for name, _, on in rows}
+
+
 def floors():
     """The crates of each floor, by the heading's words before its colon, and what each crate depends on."""
-    found, on, name = {}, {}, None
+    found, name = {}, None
     for line in (TOP / "crates.txt").read_text().splitlines():
         if line.startswith("#"):
             name = line[1:].strip().rstrip(".").split(":")[0]
         elif ":" in line and not is_for_tests(crate := line.split(":")[0].split()[0]):
             found.setdefault(name, []).append(crate)
-            on[crate] = line.split(":")[1].split()
+    on = {crate: others for crate, others in dependencies().items() if not is_for_tests(crate)}
     return found, {crate: [other for other in others if other in on] for crate, others in on.items()}
 
 
 def below(on, crate):
-    """All crates that a crate stands on."""
-    return {other for direct in on[crate] for other in {direct, *below(on, direct)}}
+    """All crates of this repository that a crate stands on."""
+    found = [crate]
+    for name in found:
+        found += [other for other in on[name] if other in on and other not in found]
+    return found[1:]
+
+
+def sources(crates):
+    """What crates are built of: files, and folders, which are newer where a file of them is gone."""
+    yield TOP / "crates.txt"
+    for folder in (TOP / "crates" / name / part for name in crates for part in ("src", "specs")):
+        if folder.is_dir():
+            yield folder
+            yield from folder.rglob("*")
 
 
 def drawn():

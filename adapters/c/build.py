@@ -14,6 +14,10 @@ import time
 
 HERE = pathlib.Path(__file__).resolve().parent
 TOP = HERE.parent.parent
+sys.path.append(str(TOP / "tools"))
+
+from floors import below, dependencies, sources
+
 CRATE = "sigverify_c"
 ARCHIVE = TOP / "crates" / CRATE / "out" / f"lib{CRATE}.a"
 SHARED = HERE / "out/libsigverify.so"
@@ -33,33 +37,10 @@ def kit():
     return pathlib.Path(ran(["rt", "doc"]).strip()).parent
 
 
-def dependencies():
-    """What each crate depends on, by crates.txt."""
-    lines = (line.partition("#")[0] for line in (TOP / "crates.txt").read_text().splitlines())
-    rows = (line.partition(":") for line in lines if ":" in line)
-    return {name.split()[0]: on.split() for name, _, on in rows}
-
-
-def below(on, crate):
-    """The crates of this repository that a crate is built of, itself first."""
-    found = [crate]
-    for name in found:
-        found += [other for other in on[name] if other in on and other not in found]
-    return found
-
-
-def sources(names):
-    """What crates are built of: files, and folders, which are newer where a file of them is gone."""
-    yield TOP / "crates.txt"
-    for folder in (TOP / "crates" / name / part for name in names for part in ("src", "specs")):
-        if folder.is_dir():
-            yield folder
-            yield from folder.rglob("*")
-
-
-def is_current(made, names):
-    """Whether a file or folder is there, and not older than any source of these crates."""
-    return made.exists() and all(path.stat().st_mtime <= made.stat().st_mtime for path in sources(names))
+def is_current(made, on, crate):
+    """Whether a file or folder is there, and not older than any source of a crate and of those below it."""
+    built_of = sources([crate, *below(on, crate)])
+    return made.exists() and all(path.stat().st_mtime <= made.stat().st_mtime for path in built_of)
 
 
 def rlib(name):
@@ -69,8 +50,8 @@ def rlib(name):
 def prove(home, on):
     """Proves the crate, and builds its archive: over the libraries that `rt ci` left, where they are current, since `rt lib`
     would prove all of them again."""
-    libraries = below(on, CRATE)[1:]
-    if not all(is_current(rlib(name).parent, below(on, name)) for name in libraries):
+    libraries = below(on, CRATE)
+    if not all(is_current(rlib(name).parent, on, name) for name in libraries):
         print("adapters/c/build.py: proving what changed; a first build takes about half an hour", file=sys.stderr)
         ran([TOP / "tools/libraries", CRATE, TOP / "tools/rt_once", "lib"])
         return
@@ -87,7 +68,7 @@ def prove(home, on):
 def archive(home):
     """The static library, which has the time at which its building began, so that a source that is saved meanwhile is newer."""
     on = dependencies()
-    if not is_current(ARCHIVE, below(on, CRATE)):
+    if not is_current(ARCHIVE, on, CRATE):
         begun = time.time()
         ARCHIVE.parent.mkdir(exist_ok=True)
         prove(home, on)
