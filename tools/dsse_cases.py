@@ -159,12 +159,11 @@ def digests(subjects):
     for _, entries, _ in subjects:
         if len(entries) > 32:
             return "TooManyDigests(%d)" % len(entries)
-        for algorithm, text in entries:
-            if algorithm in SIZES:
-                size, name = SIZES[algorithm]
-                if not re.fullmatch("[0-9a-fA-F]{%d}" % size, text):
-                    return "Malformed(%s)" % name
-                found.append(algorithm + " " + text.lower())
+        for algorithm, text in [entry for entry in entries if entry[0] in SIZES]:
+            size, name = SIZES[algorithm]
+            if not re.fullmatch("[0-9a-fA-F]{%d}" % size, text):
+                return "Malformed(%s)" % name
+            found.append(algorithm + " " + text.lower())
     return " ".join(["ok"] + found) if found else "NoneRecognized"
 
 

@@ -135,12 +135,13 @@ def check(program, commands, is_all):
         texts = requests(command, is_all)
         wanted = [explained(command, text) for text in texts]
         with concurrent.futures.ThreadPoolExecutor(os.cpu_count()) as pool:
-            for text, want, said in zip(texts, wanted, pool.map(lambda pair: differing(program, command, *pair), zip(texts, wanted))):
-                shown |= explain_names.names_in(want[0].split("\n")[-1])
-                if said is not None:
-                    failed += 1
-                    gave, wants = first_difference(said[0], want[0] + "\n")
-                    print(f"explain {command} of {text[:200]}\n  gave {gave!r} {said[1]}\n  and not {wants!r} {want[1]}")
+            differ = list(pool.map(lambda pair: differing(program, command, *pair), zip(texts, wanted)))
+        for text, want, said in zip(texts, wanted, differ):
+            shown |= explain_names.names_in(want[0].split("\n")[-1])
+            if said is not None:
+                failed += 1
+                gave, wants = first_difference(said[0], want[0] + "\n")
+                print(f"explain {command} of {text[:200]}\n  gave {gave!r} {said[1]}\n  and not {wants!r} {want[1]}")
         print(f"explain {command}: {len(texts)} requests")
     missing = explain_names.missing(shown) if commands == list(LINES) else []
     for name in missing:

@@ -154,10 +154,9 @@ def members_changed(value):
         for kind, text in KINDS.items():
             yield f"{title} {kind}", written(replaced(value, way, set_to(Written(text))))
         inner = at(value, way)
-        if isinstance(inner, str):
+        if isinstance(inner, str) and inner:
             for named, cut in (("without its last character", inner[:-1]), ("without its first character", inner[1:]), ("with one more", inner + "A")):
-                if inner:
-                    yield f"{title} {named}", written(replaced(value, way, set_to(cut)))
+                yield f"{title} {named}", written(replaced(value, way, set_to(cut)))
 
 
 def at(value, way):

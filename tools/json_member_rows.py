@@ -44,13 +44,13 @@ def repeated_members():
                  '{"x":1.5,"k":1.5,"x":1,"k":1}', '{"x":1.5,"k":1', '{"x":1.5,"k":nul}', '{"x":1.5,"k":1e999}', '{"x":1e999,"x":1}', '{"x":1e999,"k":1.5}', '{"x":[1e999,1.5]}', '{"x":1.5} x', '{"x":1} {}', '{"k":1} 1.5']:
         members_of_names_case(["k"], text)
     say("Lists and objects nest to 127, in an ignored member too.")
-    for begin, end in [("[", "]"), ('{"a":', "}"), ('[{"a":', "}]"), ('{"a":1,"a":', "}")]:
+    pairs = [("[", "]"), ('{"a":', "}"), ('[{"a":', "}]"), ('{"a":1,"a":', "}")]
+    for (begin, end), (core, inner) in itertools.product(pairs, [("[]", 1), ("{}", 1), ("1", 0), ("1.5", 0), ("", 0)]):
         levels = begin.count("[") + begin.count("{")
-        for core, inner in [("[]", 1), ("{}", 1), ("1", 0), ("1.5", 0), ("", 0)]:
-            for depth in sorted({(limit - inner) // levels for limit in (125, 126, 127, 128)}):
-                text, words = nested(depth, begin, end, core)
-                for front, back in [('{"x":', ',"k":1}'), ('{"k":', "}"), ('{"x":', ',"x":1}')]:
-                    members_of_names_case(["k"], front + text + back, "hex %s+%s+%s" % (front.encode().hex(), words[4:], back.encode().hex()))
+        for depth in sorted({(limit - inner) // levels for limit in (125, 126, 127, 128)}):
+            text, words = nested(depth, begin, end, core)
+            for front, back in [('{"x":', ',"k":1}'), ('{"k":', "}"), ('{"x":', ',"x":1}')]:
+                members_of_names_case(["k"], front + text + back, "hex %s+%s+%s" % (front.encode().hex(), words[4:], back.encode().hex()))
     for depth in (1000, 100000):
         for begin, end in [("[", "]"), ('{"a":', "}"), ("[", "")]:
             text, words = nested(depth, begin, end, "1")
@@ -80,12 +80,11 @@ def members_beside_a_list():
         for item in ['"aGk="', '"%s"' % HASH, '{"a":"b"}', "[1,2]", "null"]:
             members_and_list_case(word, "", ["k"], '{"":[%s,%s],"k":%s}' % (item, item, item))
     say("Lists and objects nest to 127, in an element too.")
-    for begin, end in [("[", "]"), ('{"a":', "}")]:
-        for core, inner in [("[]", 1), ("1", 0)]:
-            for depth in (limit - inner for limit in (124, 125, 126, 127)):
-                text, words = nested(depth, begin, end, core)
-                for front, back in [('{"l":[', '],"k":1}'), ('{"l":[1,', "]}")]:
-                    members_and_list_case("any", "l", ["k"], front + text + back, "hex %s+%s+%s" % (front.encode().hex(), words[4:], back.encode().hex()))
+    for (begin, end), (core, inner) in itertools.product([("[", "]"), ('{"a":', "}")], [("[]", 1), ("1", 0)]):
+        for depth in (limit - inner for limit in (124, 125, 126, 127)):
+            text, words = nested(depth, begin, end, core)
+            for front, back in [('{"l":[', '],"k":1}'), ('{"l":[1,', "]}")]:
+                members_and_list_case("any", "l", ["k"], front + text + back, "hex %s+%s+%s" % (front.encode().hex(), words[4:], back.encode().hex()))
     for count in (31, 32, 33, 1000):
         members_and_list_case("text", "l", ["k"], '{"l":[%s],"k":1}' % ",".join(['"a"'] * count))
 
@@ -169,13 +168,12 @@ def integers():
             row_cases(text, name)
     say("Each bound of the integers, as a number and as a text.")
     for bound in [0, 1, 10, 2**31, 2**32, 2**53, 2**63, 2**64, 10**19, 10**20]:
-        for near in (-1, 0, 1):
-            for sign in (1, -1):
-                value = sign * bound + near
-                if -2**63 <= value < 2**64:
-                    integers_case('{"m":%d}' % value)
-                integers_case('{"m":"%d"}' % value)
-                integers_case('{"m":"%s%s"}' % ("-" if value < 0 else "", "000" + str(abs(value))))
+        for near, sign in itertools.product((-1, 0, 1), (1, -1)):
+            value = sign * bound + near
+            if -2**63 <= value < 2**64:
+                integers_case('{"m":%d}' % value)
+            integers_case('{"m":"%d"}' % value)
+            integers_case('{"m":"%s%s"}' % ("-" if value < 0 else "", "000" + str(abs(value))))
 
 
 def kinds():

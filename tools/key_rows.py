@@ -2,6 +2,7 @@
 
 The keys are OpenSSL's, in base_cases.txt."""
 import base64
+import itertools
 import pathlib
 
 from case_table import hexed
@@ -19,6 +20,14 @@ def changed(data, index, byte):
     return data[:index] + bytes([byte]) + data[index + 1:]
 
 
+def one_bit_turned(made):
+    """SPKIs in which one bit of an object identifier is turned, each with what is in the identifier's place."""
+    for name, start, end in [("P256", 6, 13), ("P256", 15, 23), ("P384", 15, 20), ("P521", 16, 21), ("RSA", 8, 17), ("ED25519", 6, 9)]:
+        for index, bit in itertools.product(range(start, end), range(8)):
+            other = changed(made[name], index, made[name][index] ^ 1 << bit)
+            yield other, other[start:end]
+
+
 def spkis(made):
     """SPKIs with the schemes of their keys, SPKIs of other keys, and bytes that are none."""
     p256 = made["P256"]
@@ -32,14 +41,11 @@ def spkis(made):
                    bytes.fromhex("300f300906072a8648ce3d020103020001")]
     # each bit of each object identifier turned is another algorithm; that of P-384 and that of P-521 are one bit apart
     curves = {bytes.fromhex("2b81040022"): "ECDSA_P384_SHA384_ASN1", bytes.fromhex("2b81040023"): "ECDSA_P521_SHA512_ASN1"}
-    for name, start, end in [("P256", 6, 13), ("P256", 15, 23), ("P384", 15, 20), ("P521", 16, 21), ("RSA", 8, 17), ("ED25519", 6, 9)]:
-        for index in range(start, end):
-            for bit in range(8):
-                other = changed(made[name], index, made[name][index] ^ 1 << bit)
-                if other[start:end] in curves:
-                    kinds.append((other, curves[other[start:end]]))
-                elif is_identifier(other[start:end]):
-                    unsupported.append(other)
+    for other, identifier in one_bit_turned(made):
+        if identifier in curves:
+            kinds.append((other, curves[identifier]))
+        elif is_identifier(identifier):
+            unsupported.append(other)
     none = [b"", p256[:90], changed(p256, 25, 1),
             # two parameters, an empty identifier, a byte after it
             bytes.fromhex("300f300906032b65700500050003020001"), bytes.fromhex("30083002060003020001"), bytes.fromhex("300b300506032b65700302000100"),

@@ -293,15 +293,19 @@ def normalized(line):
     return line.replace(", ", ",")
 
 
+def calls_of(path):
+    """The calls of a table, each with its result."""
+    with open(path, encoding="utf-8") as calls, open(path[:-2] + "out", encoding="utf-8") as results:
+        yield from ((call, result) for call, result in zip(calls, results) if not call.startswith("#"))
+
+
 def read_lines():
     """The results of each word of each program of cases."""
     lines = collections.defaultdict(list)
     for path in sorted(glob.glob(os.path.join(TOP, "*_cases", "stdin"))):
         program = path.split(os.sep)[-2].removesuffix("_cases")
-        with open(path, encoding="utf-8") as calls, open(path[:-2] + "out", encoding="utf-8") as results:
-            for call, result in zip(calls, results):
-                if not call.startswith("#"):
-                    lines["%s %s" % (program, call.split(" ")[0].strip())].append(normalized(result.strip()))
+        for call, result in calls_of(path):
+            lines["%s %s" % (program, call.split(" ")[0].strip())].append(normalized(result.strip()))
     return lines
 
 

@@ -41,25 +41,27 @@ def logged(change):
     return message(body=compact(tree).encode())
 
 
+def member(way, value):
+    """The change of a body that gives the member at this path this value."""
+    *objects, name = way.split(".")
+
+    def change(tree):
+        for each in objects:
+            tree = tree[each]
+        tree[name] = value
+    return change
+
+
 def message_bodies():
-    def member(*way):
-        def change(value):
-            def make(tree):
-                for name in way[:-1]:
-                    tree = tree[name]
-                tree[way[-1]] = value
-            return make
-        return change
-    digest, kind = member("spec", "data", "hash", "value"), member("kind")
     row("message body: spelled otherwise", "verified 2 5", message(body=json.dumps(json.loads(MADE.body), indent=1, sort_keys=True).encode()))
     row("message body: a member twice, the last counts", "verified 2 5", message(body=MADE.body.replace(b'{"apiVersion"', b'{"kind":1,"apiVersion"')))
     for name, change in [
-            ("the digest in upper case", digest(DIGEST.upper())), ("another digest", digest(OTHER_DIGEST)),
-            ("another algorithm", member("spec", "data", "hash", "algorithm")("sha512")), ("another kind", kind("dsse")),
-            ("another version", member("apiVersion")("0.0.2")), ("another signature", member("spec", "signature", "content")(base64_of(b"x"))),
-            ("another certificate", member("spec", "signature", "publicKey", "content")(base64_of(b"x"))),
-            ("another member", member("other")(None)), ("another member of the hash", member("spec", "data", "hash", "other")("")),
-            ("a number for the kind", kind(1)), ("a list for the kind", kind(["hashedrekord"]))]:
+            ("the digest in upper case", member("spec.data.hash.value", DIGEST.upper())), ("another digest", member("spec.data.hash.value", OTHER_DIGEST)),
+            ("another algorithm", member("spec.data.hash.algorithm", "sha512")), ("another kind", member("kind", "dsse")),
+            ("another version", member("apiVersion", "0.0.2")), ("another signature", member("spec.signature.content", base64_of(b"x"))),
+            ("another certificate", member("spec.signature.publicKey.content", base64_of(b"x"))),
+            ("another member", member("other", None)), ("another member of the hash", member("spec.data.hash.other", "")),
+            ("a number for the kind", member("kind", 1)), ("a list for the kind", member("kind", ["hashedrekord"]))]:
         row("message body: " + name, NOT_LOGGED, logged(change))
     for name, body in [("without a member", compact({"apiVersion": "0.0.1", "kind": "hashedrekord"}).encode()), ("a list around it",
                        b"[" + MADE.body + b"]"), ("nothing", b""), ("no document", MADE.body[:-1]), ("that of an envelope", fixture.Request().body)]:

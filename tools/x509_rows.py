@@ -128,21 +128,26 @@ def key_case(cause, digits, expected):
     case(cause, "key " + spelled(bytes.fromhex(digits)), expected)
 
 
-def rows():
+def writer(kind):
+    """What writes the rows of a kind."""
+    if kind.startswith("policy:"):
+        return policy_case(kind.removeprefix("policy:"))
     by_kind = {"certificate": certificate_case, "is_trusted": trusted_case, "pool": pool_case, "crowd": crowd_case,
                "embedded_sct": embedded_case, "embedded_sct_of_chain": chain_case, "precert": precert_case,
                "identity": identity_case, "key": key_case}
+    return by_kind.get(kind) or judged_case(kind)
+
+
+def rows():
     with open(os.path.join(HERE, "x509_cases.txt"), encoding="utf-8") as file:
-        for line in file.read().splitlines():
-            if line.startswith("@"):
-                kind, title = line[1:].split(" ", 1)
-                group("%s: %s" % (kind.replace("policy:", ""), title))
-                if kind.startswith("policy:"):
-                    write = policy_case(kind.removeprefix("policy:"))
-                else:
-                    write = by_kind.get(kind) or judged_case(kind)
-            elif line:
-                write(*line.split("|"))
+        lines = file.read().splitlines()
+    for line in lines:
+        if line.startswith("@"):
+            kind, title = line[1:].split(" ", 1)
+            group("%s: %s" % (kind.replace("policy:", ""), title))
+            write = writer(kind)
+        elif line:
+            write(*line.split("|"))
 
 
 # What stands for itself.
