@@ -10,14 +10,15 @@ NO_REPLY = 3
 
 def isolate():
     """Python, if it was not started as the adapter's first line has it, is started anew, before anything is imported: a
-    variable of Python may name a folder of other modules. OpenSSL reads the system's settings; and where the caller
-    ignored SIGCHLD, by which each child's status would be lost and read as 0, it is ignored no longer."""
+    variable of Python may name a folder of other modules. Variables of OpenSSL, which may name code, other settings or
+    instructions that the processor lacks, are dropped before anything loads its library. And where the caller ignored
+    SIGCHLD, by which each child's status would be lost and read as 0, it is ignored no longer."""
     if not sys.flags.isolated:
         os.execv(sys.executable, [sys.executable, "-I", *["-S"] * sys.flags.no_site, *sys.argv])
+    for name in [name for name in os.environ if name.startswith("OPENSSL_")]:
+        del os.environ[name]
     import signal
     signal.signal(signal.SIGCHLD, signal.SIG_DFL)
-    for name in "OPENSSL_CONF", "OPENSSL_ENGINES", "OPENSSL_MODULES":
-        os.environ.pop(name, None)
 
 
 def hold_streams():

@@ -204,6 +204,8 @@ def variables_of(place):
         "PYTHONUSERBASE": place, "PYTHONSAFEPATH": "", "PYTHONPLATLIBDIR": place, "PYTHONBREAKPOINT": "json.x",
         "PYTHONWARNINGS": "error", "PYTHONDEVMODE": "1", "PYTHONOPTIMIZE": "2", "PYTHONPYCACHEPREFIX": place,
         "OPENSSL_CONF": os.path.join(place, "openssl.cnf"), "OPENSSL_MODULES": place, "OPENSSL_ENGINES": place,
+        "OPENSSL_CONF_INCLUDE": place, "OPENSSL_ia32cap": "0xffffffffffffffff:0xffffffffffffffff",
+        "CTLOG_FILE": place, "RANDFILE": place, "SSL_CERT_DIR": place, "SSL_CERT_FILE": os.path.join(place, "openssl.cnf"),
         "BASH_ENV": shell, "ENV": shell, "SHELLOPTS": "xtrace:noexec", "PS4": "$(echo verified 2 5 >&2)",
         "BASH_FUNC_find%%": "() { echo verified 2 5; }", "BASH_FUNC_exec%%": "() { echo verified 2 5; exit 0; }",
         "GLOBIGNORE": "*", "IFS": "/", "CDPATH": place, "POSIXLY_CORRECT": "1", "LC_ALL": "C", "LANG": "x",
