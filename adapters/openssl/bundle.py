@@ -53,8 +53,8 @@ sigstore-conformance, for one artifact; there --staging changes nothing, since t
 also the name of a file in the current folder, as `verify-bundle` or --json may be, is an error; the file is given as
 ./verify-bundle or ./--json. A bundle for which more than 1,024 signatures would have to be verified has no reply.
 
-Status: 0 trusted; 1 and 2 not, and the line names the link that fails; 3 there was no reply. Of several artifacts it is
-that of the first that is not trusted.
+Status: 0 trusted; 1 and 2 not, and the line names the link that fails; 3, as any other, there was no reply. Of several
+artifacts it is that of the first that is not trusted.
 """
 
 # The words, by the rules of a policy.

@@ -32,7 +32,7 @@ Runs a command of sigverify on a request, of which OpenSSL verifies the signatur
 The request is JSON of at most 2^24 bytes, without `accepted`, or with one that does not count. There is no
 reply where more than 1,024 signatures would have to be verified; of audit, witness and gate, more than 16,384.
 
-Status: that of the reply, 0 if every link of the command holds, 1 and 2 if not; 3 there was no reply.
+Status: that of the reply, 0 if every link of the command holds, 1 and 2 if not; 3, as any other, there was no reply.
 """
 
 # What a reply is, by its status; the list of `questions` has status 0, and `explain` writes a line of JSON after a reply.

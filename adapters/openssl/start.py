@@ -1,11 +1,17 @@
 """How an adapter starts and ends: isolated, with three standard streams, and at each end without a reply with status 3.
 
+Python by itself may end with 1 or 2 before a line of its program runs, as without memory, and at any time by a signal. So
+an adapter's first line runs a shell, and the shell runs Python: it makes 0, 1 and 2 of Python's statuses 40, 41 and 42,
+and 3 of every other end.
+
 Nothing here is found by a search: `run` loads the modules beside this file, wherever a link to the adapter is.
 """
 import os
 import sys
 
 NO_REPLY = 3
+SHELL = sys._xoptions.get("shell")  # the process of the first line's shell, which hands it to Python; else None
+OF_SHELL = 40  # how much more than the adapter's status that of Python then is
 
 
 def isolate():
@@ -60,6 +66,11 @@ def say(adapter, message):
     os.write(2, f"{adapter}: {shown(message)}\n".encode())
 
 
+def is_abandoned():
+    """Whether the first line's shell has ended before Python, so that nobody sees the status of a reply."""
+    return SHELL is not None and SHELL != str(os.getppid())
+
+
 def run(adapter, modules, words):
     """Ends with the reply's status, which `main` of the last module returns once the reply is written; and else with 3,
     whatever was raised, here too."""
@@ -72,4 +83,4 @@ def run(adapter, modules, words):
     except BaseException as error:  # Python would end with 1, the status of a reply
         say(adapter, reason(error))
     finally:
-        os._exit(status)
+        os._exit(status if SHELL is None else OF_SHELL + status)

@@ -266,7 +266,7 @@ def check_ends(results, program):
     shell = ["/bin/sh", "-c", 'exec "$@" <&-', "sh"]
     compare_end(results, "the input is closed", words, "standard input cannot be read", adapter=CHECKED, start=shell)
     gave = run(words, ["/bin/sh", "-c", 'exec "$@" </', "sh"], CHECKED)  # Python does not start
-    results.compare("the input is a folder", gave[:2], (1, ""))
+    results.compare("the input is a folder", gave[:2], (3, ""))
     for output in "/dev/full", "&-":
         gave = run(words, ["/bin/sh", "-c", f'exec "$@" >{output}', "sh"], CHECKED, input=text)
         results.compare(f"the output is {output}", (gave[0], gave[1]), (3, ""))

@@ -8,6 +8,9 @@ from signed import IDENTITY, ISSUER, NOW
 HERE = os.path.dirname(os.path.abspath(__file__))
 ADAPTER = os.path.join(HERE, "sigverify-bundle")
 CHECKED = os.path.join(HERE, "sigverify-checked")
+PYTHON = "/usr/bin/python3"
+MODULES = "start", "genuine", "words", "times", "explain_table", "explain_words", "pattern", "checked", "bundle"
+FILES = "sigverify-bundle", *[f"{name}.py" for name in MODULES]
 VERIFIED = "verified 2 5"
 NO_REPLY = 3
 

@@ -8,11 +8,8 @@ import tempfile
 import signed
 from signed import Signed
 from test_checked import compact, log_request
-from test_common import ADAPTER, CHECKED, HERE, VERIFIED, compare_end, file_of, program_that, run, words_of
+from test_common import ADAPTER, CHECKED, FILES, HERE, MODULES, PYTHON, VERIFIED, compare_end, file_of, program_that, run, words_of
 
-PYTHON = "/usr/bin/python3"
-MODULES = "genuine", "words", "times", "explain_table", "explain_words", "pattern", "checked", "bundle"
-FILES = "sigverify-bundle", "start.py", *[f"{name}.py" for name in MODULES]
 # By which OpenSSL has no algorithm.
 OPENSSL_SETTINGS = b"openssl_conf = all\n[all]\nproviders = named\n[named]\nbase = on\n[on]\nactivate = 1\n"
 FORGED = "import os\nos.write(1, b'verified 2 5\\n')\nos._exit(0)\n"
@@ -168,21 +165,6 @@ def check_imports(results, program):
             compare_end(results, "no package", words, "apt-get install python3-cryptography", start=[PYTHON, *flags])
 
 
-def check_memory(results, program):
-    """Under each limit there is a reply, or status 3, or Python itself could not start, and nothing is written."""
-    with tempfile.TemporaryDirectory() as folder:
-        signed.write(folder, Signed())
-        given, ends = words_of(folder, program), set()
-        for kilobytes in range(10000, 40000, 2000):
-            shell = ["/bin/sh", "-c", f'ulimit -v {kilobytes}; exec "$@"', "sh"]
-            status, reply, said = run(given, shell)
-            started = "sigverify-bundle: " in said
-            fits = (status == 3 if started else status not in (0, 2)) if reply == "" else reply == VERIFIED + "\n"
-            results.compare(f"{kilobytes} kilobytes ({said})", (status, reply, fits), (status, reply, True))
-            ends.add(said)
-        results.compare("out of memory", "sigverify-bundle: out of memory\n" in ends, True)
-
-
 # What an environment or a folder would make of it. The request is refused, and stays so.
 
 def planted(folder):
@@ -190,7 +172,7 @@ def planted(folder):
     for package in "cryptography", "encodings", "importlib":
         os.mkdir(os.path.join(folder, package))
         file_of(folder, os.path.join(package, "__init__.py"), FORGED.encode())
-    for name in ("sitecustomize", "usercustomize", "start", *MODULES, "json", "re", "os", "subprocess", "hashlib", "signal"):
+    for name in ("sitecustomize", "usercustomize", *MODULES, "json", "re", "os", "subprocess", "hashlib", "signal"):
         file_of(folder, f"{name}.py", FORGED.encode())
     file_of(folder, "bash_env", b"echo verified 2 5; exit 0\n")
     file_of(folder, "openssl.cnf", OPENSSL_SETTINGS)
@@ -216,7 +198,7 @@ def planted_beside(folder):
     """A folder with such modules, but without those that Python itself loads as it starts, before any line of a program."""
     os.mkdir(os.path.join(folder, "cryptography"))
     file_of(folder, os.path.join("cryptography", "__init__.py"), FORGED.encode())
-    for name in ("start", *MODULES, "json", "re", "subprocess", "hashlib", "signal"):
+    for name in (*MODULES, "json", "re", "subprocess", "hashlib", "signal"):
         file_of(folder, f"{name}.py", FORGED.encode())
 
 
@@ -256,4 +238,4 @@ def check_environment(results, program):
             compare("by Python's name, with PYTHONPATH", adapter, [PYTHON], PYTHONPATH=beside)
 
 
-PARTS = check_programs, check_signals, check_files, check_streams, check_imports, check_memory, check_environment
+PARTS = check_programs, check_signals, check_files, check_streams, check_imports, check_environment

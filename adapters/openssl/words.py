@@ -2,11 +2,15 @@
 import os
 import sys
 
+from start import is_abandoned
+
 FLAGS = "--explain", "--json", "--print-request", "--staging"  # the words without a value
 
 
 def write(number, content):
-    """All of the content to standard output, 1, or standard error, 2."""
+    """All of the content to standard output, 1, or standard error, 2, if the status after it is going to be seen."""
+    if is_abandoned():
+        sys.exit("the shell that started this has ended")
     left = memoryview(content)
     try:
         while left:
