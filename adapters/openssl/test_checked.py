@@ -8,7 +8,7 @@ import tempfile
 
 import signed
 from signed import IDENTITY, ISSUER, NOW, Signed, fixture
-from test_common import CHECKED, HERE, VERIFIED, compare_end, file_of, program_that, run, words_of
+from test_common import CHECKED, HERE, PYTHON, VERIFIED, compare_end, file_of, program_that, run, words_of
 
 LIMIT = 1 << 24
 SIZES = 3, 7
@@ -259,9 +259,10 @@ def check_ends(results, program):
         there = os.path.join(folder, "sigverify-checked")
         with open(CHECKED, "rb") as file:
             os.chmod(file_of(folder, "sigverify-checked", file.read()), 0o755)
-        compare_end(results, "start.py fails", ["log"], "start.py", adapter=there, input=text)
+        for start in [], [PYTHON, "-I"]:
+            compare_end(results, "start.py fails", ["log"], "start.py: MemoryError: ", adapter=there, start=start, input=text)
         os.remove(os.path.join(folder, "start.py"))
-        compare_end(results, "no start.py", ["log"], "start.py", adapter=there, input=text)
+        compare_end(results, "no start.py", ["log"], "start.py: FileNotFoundError: ", adapter=there, input=text)
     words = [f"--sigverify={program}", "log"]
     shell = ["/bin/sh", "-c", 'exec "$@" <&-', "sh"]
     compare_end(results, "the input is closed", words, "standard input cannot be read", adapter=CHECKED, start=shell)

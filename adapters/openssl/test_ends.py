@@ -136,6 +136,17 @@ RAISED = {
     "raise OSError(28, 'x')": "OSError: [Errno 28] x", "raise OSError('\\ud800')": "OSError: \\ud800",
     "def f(): f()\nf()": "RecursionError: "}
 SPEECHLESS = "class E(Exception):\n    def __str__(self): raise self\nraise E"
+# Of start.py itself the adapter's own lines say what was raised, if it is not as above.
+OF_START = {
+    "raise MemoryError": "MemoryError: ", "raise KeyboardInterrupt": "KeyboardInterrupt: ", "": "KeyError: 'run'",
+    "import sys; sys.exit(0)": "SystemExit: 0", "import sys; sys.exit()": "SystemExit: ", "raise SystemExit(1)": "SystemExit: 1"}
+
+
+def raised_in(name):
+    """What the module does, and how the line on standard error begins; there is none where nothing is said."""
+    said = {**RAISED, **OF_START} if name == "start" else RAISED
+    prefix = "sigverify-bundle: start.py: " if name == "start" else "sigverify-bundle: "
+    return {**{does: prefix + text for does, text in said.items()}, SPEECHLESS: ""}
 
 
 def check_imports(results, program):
@@ -145,13 +156,13 @@ def check_imports(results, program):
         for name in MODULES:
             for each in FILES:
                 shutil.copy(os.path.join(HERE, each), folder)
-            for does, said in {**RAISED, SPEECHLESS: ""}.items():
+            for does, wanted in raised_in(name).items():
                 file_of(folder, f"{name}.py", does.encode())
-                done = subprocess.run([there, *words_of(folder, program)], capture_output=True)
-                wanted = f"sigverify-bundle: {said}".encode() if said else b""
-                lines = done.stderr.count(b"\n"), done.stderr.startswith(wanted)
-                gave = done.returncode, done.stdout, *lines
-                results.compare(f"{name}.py does: {does} ({done.stderr})", gave, (3, b"", 1 if said else 0, True))
+                # By Python's name there is no shell, which makes 3 of any end of Python.
+                for start in ([PYTHON, "-I"], []) if name == "start" else ([PYTHON, "-I"],):
+                    status, reply, said = run(words_of(folder, program), start, there)
+                    gave = status, reply, said.count("\n"), said.startswith(wanted)
+                    results.compare(f"{start} {name}.py does: {does} ({said})", gave, (3, "", 1 if wanted else 0, True))
         with open(os.path.join(HERE, "genuine.py"), encoding="utf-8") as file:
             older = file.read().replace("import InvalidSignature,", "import Absent, InvalidSignature,")
         for each in FILES[1:]:
