@@ -10,6 +10,16 @@ import collections
 import functools
 import sys
 
+
+def unloaded(error):
+    """What is said where the package cannot be loaded: it is not installed, it is an older one, or, as without memory, its
+    files cannot be read."""
+    said = f"Python's package cryptography cannot be loaded: {error}"
+    if isinstance(error, ModuleNotFoundError):
+        return f"{said}; apt-get install python3-cryptography, of version 38 or later"
+    return f"{said}; it has to be of version 38 or later" if "cannot import name" in str(error) else said
+
+
 try:
     from cryptography.exceptions import InvalidSignature, UnsupportedAlgorithm
     from cryptography.hazmat.primitives.asymmetric.ec import ECDSA, SECP256R1, EllipticCurvePublicKey
@@ -19,10 +29,8 @@ try:
     from cryptography.hazmat.primitives.asymmetric.utils import Prehashed
     from cryptography.hazmat.primitives.hashes import SHA256, SHA384, SHA512
     from cryptography.hazmat.primitives.serialization import Encoding, PublicFormat, load_der_public_key
-except ModuleNotFoundError as absent:
-    sys.exit(f"there is no {absent.name}, of Python's package cryptography: apt-get install python3-cryptography")
-except ImportError as error:
-    sys.exit(f"needs Python's package cryptography, from version 38 on, which cannot be loaded: {error}")
+except ImportError as failed:
+    sys.exit(unloaded(failed))
 
 
 # How signatures are made: under which kinds of key, with which hash, and of RSA with which padding.

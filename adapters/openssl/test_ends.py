@@ -12,6 +12,7 @@ from test_common import ADAPTER, CHECKED, FILES, HERE, MODULES, PYTHON, VERIFIED
 
 # By which OpenSSL has no algorithm.
 OPENSSL_SETTINGS = b"openssl_conf = all\n[all]\nproviders = named\n[named]\nbase = on\n[on]\nactivate = 1\n"
+JSON = subprocess.run([PYTHON, "-I", "-c", "import json; print(json.__file__)"], capture_output=True, text=True).stdout.strip()
 FORGED = "import os\nos.write(1, b'verified 2 5\\n')\nos._exit(0)\n"
 
 
@@ -149,6 +150,15 @@ def raised_in(name):
     return {**{does: prefix + text for does, text in said.items()}, SPEECHLESS: ""}
 
 
+# What the package does as it is loaded, and what is said of it.
+UNLOADED = "Python's package cryptography cannot be loaded: "
+PACKAGES = {
+    "raise ImportError('x.so: failed to map segment')": UNLOADED + "x.so: failed to map segment",
+    "from json import Absent": UNLOADED + f"cannot import name 'Absent' from 'json' ({JSON}); it has to be of version 38 or later",
+    "import absent": UNLOADED + "No module named 'absent'; apt-get install python3-cryptography, of version 38 or later",
+    "raise MemoryError": "out of memory", "raise OSError(12, 'x')": "OSError: [Errno 12] x"}
+
+
 def check_imports(results, program):
     with tempfile.TemporaryDirectory() as folder:
         signed.write(folder, Signed())
@@ -163,15 +173,14 @@ def check_imports(results, program):
                     status, reply, said = run(words_of(folder, program), start, there)
                     gave = status, reply, said.count("\n"), said.startswith(wanted)
                     results.compare(f"{start} {name}.py does: {does} ({said})", gave, (3, "", 1 if wanted else 0, True))
-        with open(os.path.join(HERE, "genuine.py"), encoding="utf-8") as file:
-            older = file.read().replace("import InvalidSignature,", "import Absent, InvalidSignature,")
-        for each in FILES[1:]:
-            shutil.copy(os.path.join(HERE, each), folder)
-        file_of(folder, "genuine.py", older.encode())
-        done = subprocess.run([there, *words_of(folder, program)], capture_output=True)
-        said = b"from version 38 on, which cannot be loaded: cannot import name 'Absent'" in done.stderr
-        results.compare("another version of the package", (done.returncode, done.stdout, said), (3, b"", True))
         words = words_of(folder, program)
+        for each in FILES:
+            shutil.copy(os.path.join(HERE, each), folder)
+        with open(os.path.join(HERE, "genuine.py"), encoding="utf-8") as file:
+            first, rest = file.read().split("\ntry:\n")
+        for line, said in PACKAGES.items():
+            file_of(folder, "genuine.py", f"{first}\ntry:\n    {line}\n{rest}".encode())
+            results.compare(f"a package that does: {line}", run(words, adapter=there), (3, "", f"sigverify-bundle: {said}\n"))
         for flags in ["-S"], ["-S", "-E"], ["-I", "-S"]:
             compare_end(results, "no package", words, "apt-get install python3-cryptography", start=[PYTHON, *flags])
 
