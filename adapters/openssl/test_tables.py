@@ -7,9 +7,10 @@ import tempfile
 import signed
 from fixture import BASIC_CONSTRAINTS, BIT_STRING, KEY_USAGE, SEQUENCE, base64_of, compact, der, extension, oid
 from signed import IDENTITY, ISSUER, Signed, fixture
-from test_common import HERE, file_of, run, words_of
+from test_common import ADAPTER, HERE, file_of, run, words_of
 
 LINKS = os.path.join(HERE, "..", "..", "docs", "LINKS.md")
+README = os.path.join(HERE, "..", "..", "README.md")
 REQUESTS = os.path.join(HERE, "..", "..", "docs", "REQUESTS.md")
 ENDED = {"start": "2023-01-01T00:00:00Z", "end": "2023-12-13T23:59:59Z"}  # a second before the time of the runs
 BEGUN = {"start": "2023-12-13T12:00:00Z"}  # after the entry's time
@@ -221,4 +222,19 @@ def check_rules(results, program):
             results.compare(f"{rule} by {identifier}", done.stdout, b"verified 2 5\n" if named else b"refused policy\n")
 
 
-PARTS = check_refused, check_untested, check_other_files, check_rules
+# What the adapters and README.md say is trusted.
+
+TRUSTED = ["is_genuine", "sha256:HEX", "sha512:HEX", "standard input", "all hold which the words name", "what they say of the workflow",
+           "--now", "several artifacts", "the artifact whose reply", "--sigverify", "PATH", "SIGVERIFY_BUILD=quick", "up to date",
+           "pattern", "words of explanations", "adapters/python/sigverify.py", "package cryptography"]
+
+
+def check_trusted(results, _):
+    """The list at the head of sigverify-bundle and README.md name the same."""
+    for path, first, last in (ADAPTER, "all that is trusted of it:", '"""'), (README, "Trusted of `adapters/openssl` are:", "\n"):
+        with open(path, encoding="utf-8") as file:
+            listed = " ".join(file.read().split(first, 1)[1].split(last, 1)[0].split())
+        results.compare(f"what is trusted, by {path}", [each for each in TRUSTED if each not in listed], [])
+
+
+PARTS = check_refused, check_untested, check_other_files, check_rules, check_trusted
