@@ -127,16 +127,17 @@ class Signed:
     Parts of other forms: the `stamps` are so
     many SCTs, `issued` the extension with the issuer, `workflow` the texts of further ones, and `anchor` has other
     parts of trust anchors; `payload` makes the statement of a digest, and `body` the log entry's body from payload,
-    signature and certificate."""
+    or digest of a message, signature and certificate."""
 
     def __init__(self, leaf="P-256", authority=("P-256", "SHA256"), log="P-256", content="envelope", profile="0.3",
                  chain=False, rival=False, spoiled=None, by="flip", artifact=b"an artifact\n", stamps=1, issued=None,
-                 anchor={}, payload=fixture.statement, body=fixture.body_of, workflow=WORKFLOW, alone=False,
+                 anchor={}, payload=fixture.statement, body=None, workflow=WORKFLOW, alone=False,
                  left_out=None, authorities={}, uppermost={}):
         self.content, self.profile, self.chain, self.rival = content, profile, int(chain), rival
         self.alone, self.left_out, self.changed = alone, left_out, (authorities, uppermost)
         self.spoiled, self.by, self.artifact, self.stamps, self.issued = spoiled, by, artifact, stamps, issued
-        self.other_anchor, self.payload_of, self.body_of, self.workflow = anchor, payload, body, workflow
+        self.other_anchor, self.payload_of, self.workflow = anchor, payload, workflow
+        self.body_of = body or {"envelope": fixture.body_of, "message": fixture.hashedrekord}[content]
         self.rows, self.digest = {}, sha256(artifact)
         self.leaf = leaf if isinstance(leaf, Signer) else signer(leaf, "leaf")
         self.log, self.ct = signer(log, "log"), signer("P-256", "ct")
@@ -214,7 +215,7 @@ class Signed:
         else:
             row = "prehash", self.leaf.scheme, self.leaf.spki
             self.made = self.signature("content", self.leaf, self.digest, row, digest=True)
-            self.body = fixture.hashedrekord(self.digest, self.made, self.certificate)
+            self.body = self.body_of(self.digest, self.made, self.certificate)
 
     # The log's entry: its promise, its inclusion proof, and the checkpoint, a signed note.
 

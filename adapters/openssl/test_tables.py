@@ -30,12 +30,24 @@ def spaced_body(payload, signature, signer):
     return compact(body).encode()
 
 
-def second_body(payload, signature, signer):
-    """The body of an entry of Rekor's second version."""
+def signature_of(signature, signer):
+    """How a body of Rekor's second version has a signature."""
+    verifier = {"x509Certificate": {"rawBytes": base64_of(signer)}, "keyDetails": "PKIX_ECDSA_P256_SHA_256"}
+    return {"content": base64_of(signature), "verifier": verifier}
+
+
+def second_dsse(payload, signature, signer):
+    """The body of an entry of Rekor's second version, over an envelope."""
     digest = {"algorithm": "SHA2_256", "digest": base64_of(fixture.sha256(payload))}
-    made = {"content": base64_of(signature), "verifier": {"x509Certificate": {"rawBytes": base64_of(signer)}}}
-    return compact({"apiVersion": "0.0.2", "kind": "dsse",
-                    "spec": {"dsseV002": {"payloadHash": digest, "signatures": [made]}}}).encode()
+    spec = {"dsseV002": {"payloadHash": digest, "signatures": [signature_of(signature, signer)]}}
+    return compact({"apiVersion": "0.0.2", "kind": "dsse", "spec": spec}).encode()
+
+
+def second_hashedrekord(digest, signature, signer):
+    """Likewise over an artifact's digest."""
+    data = {"algorithm": "SHA2_256", "digest": base64_of(digest)}
+    spec = {"hashedRekordV002": {"data": data, "signature": signature_of(signature, signer)}}
+    return compact({"apiVersion": "0.0.2", "kind": "hashedrekord", "spec": spec}).encode()
 
 
 # How the files of a request become others: by functions of the trusted root and the bundle, both as values.
@@ -112,8 +124,9 @@ REFUSED = {
     "a payload with a float, as `1.5` in a predicate": ("envelope", dict(payload=other(b'{"score":1.5}')), None),
     "an issuer in the newer extension alone, 1.3.6.1.4.1.57264.1.8": ("policy", dict(issued=NEWER_ISSUER), None),
     "two SCTs in the certificate": ("sct", dict(stamps=2), None),
-    "no promise of the log": ("promise", {}, without_promise),
-    "an entry of Rekor version 2": ("body", dict(body=second_body), second_entry),
+    "no promise of the log, of version 0.2 or 0.3": ("promise", {}, without_promise),
+    "no promise of the log, of version 0.1": ("profile", dict(profile="0.1"), without_promise),
+    "an entry of Rekor version 2": ("body", dict(body=second_dsse), second_entry),
     "an envelope hash in the log entry over JSON in another spelling": ("body", dict(body=spaced_body), None),
     "a bare key in place of a certificate": ("material", {}, bare_key),
     "cosign's older bundle, with `base64Signature` and `rekorBundle`": ("material", {}, older_cosign),
@@ -129,6 +142,14 @@ REFUSED = {
     "a chain of more than 17 certificates": ("certificate", dict(chain=1, alone=True), many_certificates),
     "a chain that has the root too": ("root-in-chain", dict(chain=1, alone=True), root_too),
 }
+
+# Further bundles of its rows.
+REFUSED_TOO = [
+    *[("no promise of the log, of version 0.2 or 0.3", dict(profile=profile, content=content), without_promise)
+      for profile in ("0.2", "0.3") for content in ("envelope", "message")],
+    ("no promise of the log, of version 0.1", dict(profile="0.1", content="message"), without_promise),
+    ("an entry of Rekor version 2", dict(content="message", body=second_hashedrekord), second_entry),
+]
 
 NOT_CA = fixture.extensions(extension(BASIC_CONSTRAINTS, der(SEQUENCE), critical=True))
 NO_PURPOSE = fixture.extensions(extension(KEY_USAGE, der(BIT_STRING, b"\x07\x80"), critical=True))
@@ -175,8 +196,8 @@ def rows_of(path, heading):
 
 
 def check_refused(results, program):
-    for title, (link, parts, change) in REFUSED.items():
-        results.compare(title, reply_to(program, parts, change), (1, f"refused {link}\n", ""))
+    for title, parts, change in [*[(title, *row[1:]) for title, row in REFUSED.items()], *REFUSED_TOO]:
+        results.compare(f"{title}, {parts}", reply_to(program, parts, change), (1, f"refused {REFUSED[title][0]}\n", ""))
     table = {row[0]: row[1] for row in rows_of(LINKS, "Bundles that are refused, and why")}
     results.compare("the table of LINKS.md", table, {title: f"`{link}`" for title, (link, *_) in REFUSED.items()})
 
