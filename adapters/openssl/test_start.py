@@ -41,6 +41,9 @@ ENDS = {**{f"exit {status}": NO_REPLY for status in (0, 1, 2, 3, 39, 43, 70, 120
         **{f"kill -{name} $$": NO_REPLY for name in ("ABRT", "BUS", "FPE", "HUP", "ILL", "INT", "KILL", "PIPE", "SEGV", "TERM")},
         "exit 40": 0, "exit 41": 1, "exit 42": 2}
 
+NAME = os.fsdecode(bytes(set(range(1, 256)) - {*b"/:"}))  # of all bytes that a folder in PATH can have
+WORDS = b"a b", b"", b"*", b"$0", b"-x", b"--", bytes(range(1, 256)), bytes(range(255, 0, -1))
+
 
 def check_line(results, _):
     """The one line of both, by sh and by bash; in the place of Python stands a program that ends as it says."""
@@ -58,10 +61,10 @@ def check_line(results, _):
             os.remove(os.path.join(folder, "program"))
             status, reply, said = run([], adapter=adapter)
             results.compare(f"no Python, {shell} ({said})", (status, reply, "program" in said), (NO_REPLY, "", True))
-            program_that(folder, "printf '%s|' \"$@\"")
-            shown = run(["a b", "", "*", "$0"], adapter=adapter)[1].split("|")
-            wanted = ["-I", "-X", shown[2], "--", adapter, "a b", "", "*", "$0", ""]
-            results.compare(f"the words, {shell}", (shown, shown[2].startswith("shell=")), (wanted, True))
+            program_that(folder, "printf '%s\\0' \"$@\"")
+            shown = subprocess.run([adapter, *WORDS], capture_output=True).stdout.split(b"\0")
+            wanted = [b"-I", b"-X", shown[2], b"--", os.fsencode(adapter), *WORDS, b""]
+            results.compare(f"the words, {shell}", (shown, shown[2].startswith(b"shell=")), (wanted, True))
 
 
 def check_crashes(results, program):
@@ -103,16 +106,16 @@ def check_names(results, program):
     with tempfile.TemporaryDirectory() as folder:
         signed.write(folder, Signed())
         given, wanted = words_of(folder, program), (0, VERIFIED + "\n", "")
-        for name in "a b", "-x", "-c", "--", "$0", "'", "a=b", "*", "\n", "\\":
+        for name in "a b", "-x", "-c", "--", "$0", "'", "a=b", "*", "\n", "\\", NAME:
             copied(os.path.join(folder, "of", name))
             path = os.path.join(name, "sigverify-bundle")
-            results.compare(f"the folder {name}", run(given, adapter=path, cwd=os.path.join(folder, "of")), wanted)
+            results.compare(f"the folder {name!a}", run(given, adapter=path, cwd=os.path.join(folder, "of")), wanted)
             os.symlink(path, os.path.join(folder, "of", "link"))
-            results.compare(f"a link to the folder {name}", run(given, adapter="./link", cwd=os.path.join(folder, "of")), wanted)
+            results.compare(f"a link to the folder {name!a}", run(given, adapter="./link", cwd=os.path.join(folder, "of")), wanted)
             environment = {**os.environ, "PATH": f"{name}:{os.environ['PATH']}"}
             shell = ["/bin/sh", "-c", 'exec "$@"', "sh"]
             gave = run(given, shell, "sigverify-bundle", cwd=os.path.join(folder, "of"), env=environment)
-            results.compare(f"by PATH, the folder {name}", gave, wanted)
+            results.compare(f"by PATH, the folder {name!a}", gave, wanted)
             os.remove(os.path.join(folder, "of", "link"))
 
 
