@@ -87,7 +87,7 @@ def check_limits(results, program):
         signed.write(folder, Signed())
         given, ends = words_of(folder, program), set()
         # Kilobytes of addresses, of data and of the stack, and numbers of files; and from where on the shell is there.
-        for flag, limits, least in [("v", [*range(200, 4000, 300), *range(2400, 2700, 20), *range(4000, 40000, 600), 12600, 16500], 4000),
+        for flag, limits, least in [("v", [*range(200, 4000, 300), *range(2400, 2700, 20), *range(4000, 40000, 900), 12600, 16500], 4000),
                                     ("d", [*range(0, 400, 20), *range(400, 12000, 1000)], 1000), ("s", range(0, 80, 8), 32),
                                     ("n", range(14), 4)]:
             for most in limits:
@@ -119,15 +119,18 @@ def check_names(results, program):
             os.remove(os.path.join(folder, "of", "link"))
 
 
-# Signals. A program that takes its time is run; it makes a file when it begins.
+# Signals. A program is run that says by a file that it has begun, and waits for another one, for a minute at most.
 
-def slow(folder, seconds):
-    return program_that(folder, f"echo > {folder}/begun; sleep {seconds}; [ \"$1\" = verify ] && echo {VERIFIED} || echo '[]'")
+WAITS = """echo > {0}/begun
+n=0
+until [ -e {0}/go ] || [ $n = 1200 ]; do sleep 0.05; n=$((n + 1)); done
+[ "$1" = verify ] && echo %s || echo '[]'""" % VERIFIED
 
 
-def started(folder, words):
+def started(folder, more=()):
     """The adapter, in a group of its own, once its program runs."""
-    child = subprocess.Popen([ADAPTER, *words], stdout=subprocess.PIPE, stderr=subprocess.PIPE, start_new_session=True)
+    words = [ADAPTER, *words_of(folder, program_that(folder, WAITS.format(folder))), *more]
+    child = subprocess.Popen(words, stdout=subprocess.PIPE, stderr=subprocess.PIPE, start_new_session=True)
     while not os.path.exists(os.path.join(folder, "begun")) and child.poll() is None:
         time.sleep(0.01)
     return child
@@ -147,7 +150,7 @@ def check_interrupted(results, program):
                 reply, _ = child.communicate()
                 fits = child.returncode in (NO_REPLY, -number) or (child.returncode, reply) == (0, VERIFIED.encode() + b"\n")
                 results.compare(f"{number} after {delay} milliseconds: {child.returncode}", fits, True)
-            child = started(folder, words_of(folder, slow(folder, 1)))
+            child = started(folder)
             os.killpg(child.pid, number)
             reply, _ = child.communicate()
             results.compare(f"{number} beside the program", (child.returncode in (NO_REPLY, -number), reply), (True, b""))
@@ -161,11 +164,14 @@ def check_abandoned(results, _):
         said = b"sigverify-bundle: the shell that started this has ended\n"
         for number in signal.SIGKILL, signal.SIGTERM:
             for more in [], ["--print-request"]:
-                child = started(folder, words_of(folder, slow(folder, 0.3)) + more)
+                child = started(folder, more)
                 os.kill(child.pid, number)
+                child.wait()
+                file_of(folder, "go", b"")
                 gave = *child.communicate(), child.returncode
                 results.compare(f"{number} to the shell, {more}", gave, (b"", said, -number))
-                os.remove(os.path.join(folder, "begun"))
+                for name in "begun", "go":
+                    os.remove(os.path.join(folder, name))
 
 
 def check_by_name(results, program):
