@@ -10,7 +10,9 @@ ghost use Rattle.sig_rekor.specs.Verify.{IsOfTree, tree_answer, IsHeadOf, size_a
 use crate::checkpoint::{CheckpointSignature, SignedCheckpoint};
 use crate::different::different;
 use crate::signed_note::SignedNote;
-use sig_base::{MerkleProofError, OutOfMemory, Result, RootHex, SignatureChecker, SigstoreError};
+use sig_base::{
+    MerkleProofError, OutOfMemory, Result, RootHex, SignatureChecker, SigstoreError, Text,
+};
 use sig_key::CosignVerificationKey;
 use std::alloc::Global;
 
@@ -37,9 +39,7 @@ impl SignedNote<'_> {
             self.now)) }
     {
         let note = self.note.marshal(alloc)?;
-        let message = note.as_str().as_bytes();
-        let signatures = self.signatures.as_slice();
-        check_signatures(alloc, message, signatures, rekor_key, checker)
+        check_signatures(alloc, &note, self.signatures.as_slice(), rekor_key, checker)
     }
 
     /// Checks that the note is of a proof's tree, whose root and number of leaves these are. It takes no memory.
@@ -76,9 +76,7 @@ impl SignedCheckpoint {
             self.now)) }
     {
         let note = self.note.marshal(alloc)?;
-        let message = note.as_str().as_bytes();
-        let signatures = self.signatures.as_slice();
-        check_signatures(alloc, message, signatures, rekor_key, checker)
+        check_signatures(alloc, &note, self.signatures.as_slice(), rekor_key, checker)
     }
 
     /// Checks that the note is of a proof's tree, as [`SignedNote::is_valid_for_proof`].
@@ -91,18 +89,18 @@ impl SignedCheckpoint {
     }
 }
 
-/// Checks that the checker accepts one of the signatures over the message as the key's.
+/// Checks that the checker accepts one of the signatures over the marshalled note as the key's.
 fn check_signatures<C: SignatureChecker>(
     alloc: Global,
-    message: &[u8],
+    note: &Text,
     signatures: &[CheckpointSignature],
     key: &CosignVerificationKey,
     checker: &C,
 ) -> Result<()>
     ensures { Answers Memory (λ x. x) result (answer_if_signed
-        (list_any (λ s. key_accepts (C.spki_accepts checker.now) key.now message.now s.raw) signatures.now)) }
+        (list_any (λ s. key_accepts (C.spki_accepts checker.now) key.now note.now s.raw) signatures.now)) }
 {
-    if accepts_one(alloc, signatures, message, key, checker)? {
+    if accepts_one(alloc, signatures, note.as_str().as_bytes(), key, checker)? {
         Ok(())
     } else {
         Err(SigstoreError::CheckpointSignatureVerificationError)
