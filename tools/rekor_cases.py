@@ -244,6 +244,11 @@ def proof(entry, index, root, size, path, rows, text):
     TABLE.case(line + ("" if text is None else " " + quoted(text)), answer)
 
 
+def audit_path(entry, index, root, size, path):
+    line = f"audit_path {in_hex(entry)} {index} {root.hex()} {size} {','.join(h.hex() for h in path) or '-'}"
+    TABLE.case(line, included(entry, index, root, size, path) or "ok")
+
+
 def tree(text, root, size, call="tree"):
     TABLE.case(f"{call} {quoted(text)} {root.hex()} {size}", of_tree(read_checkpoint(text), root, size) or "ok")
 
@@ -377,6 +382,11 @@ PATHS = ([LEAVES[1], LEAVES[2]], [LEAVES[0], LEAVES[2]], [PAIR])
 THREE = f"log.example\n3\n{base64.b64encode(TOP).decode()}\nnow: today\n"
 for index, path in itertools.product(range(4), PATHS):
     proof(b"abcd"[index : index + 1], index, TOP, 3, path, [(THREE.encode(), b"sig")], THREE + "\n" + LINE)
+say("audit_path ENTRY INDEX ROOT SIZE HASHES: the path alone, of a tree of one leaf and of one of three.")
+for entry, index, size, path in itertools.product((b"L123456", b""), (0, 1, -1, -(2**63), 2**63 - 1), (1, 2), ([], [bytes(32)])):
+    audit_path(entry, index, ROOT, size, path)
+for index, path in itertools.product(range(4), PATHS):
+    audit_path(b"abcd"[index : index + 1], index, TOP, 3, path)
 
 if __name__ == "__main__":
     import rekor_list_rows  # writes its rows after those of rekor_growth_rows, which writes its own after those of rekor_model_rows

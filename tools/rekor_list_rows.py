@@ -167,6 +167,8 @@ def proof(entry, index, size, path, root, signed_for=None):
               or notes.included(entry, index, root, size, path) or "ok")
     words = (notes.in_hex(entry), str(index), root.hex(), str(size), ",".join(h.hex() for h in path), notes.table(rows), notes.quoted(text))
     models.TABLE.case("proof " + " ".join(words), answer)
+    if signed_for is None:
+        models.TABLE.case("audit_path " + " ".join(words[:5]), notes.included(entry, index, root, size, path) or "ok")
 
 
 say("A path of three hundred hashes, and the longest one there is, of 63, in a tree of 2^63 leaves.")

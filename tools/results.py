@@ -140,6 +140,7 @@ CALLS = [
     ("decode_hashes", "rekor hashes", "sig_base SigstoreError", ["HexDecodeError", "UnexpectedError(HashLength(_))"]),
     ("InclusionProof::verify", "rekor proof", "sig_base SigstoreError",
      ["UnexpectedError(CheckpointMissing)", "CheckpointSignatureVerificationError"] + MATCH + PATH),
+    ("InclusionProof::verify_audit_path", "rekor audit_path", "sig_base SigstoreError", PATH),
     ("InclusionProof::try_from_rekor", "rekor from_rekor", "sig_base SigstoreError",
      HEXADECIMAL + ["UnexpectedError(HashLength(_))"] + within("ParseCheckpointError", FAULTS)),
     ("ConsistencyProof::try_from_rekor", "rekor consistency_from_rekor", "sig_base SigstoreError", HEXADECIMAL + ["UnexpectedError(HashLength(_))"]),

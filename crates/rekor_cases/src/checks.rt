@@ -71,6 +71,18 @@ pub(crate) fn proof(arguments: &mut Arguments<'_>, answer: &mut Answer) {
     drop(by);
 }
 
+/// `audit_path ENTRY INDEX ROOT SIZE HASHES`: whether the path of the entry leads to the root.
+pub(crate) fn audit_path(arguments: &mut Arguments<'_>, answer: &mut Answer) {
+    let entry = arguments.hex();
+    let index = arguments.integer();
+    let root = arguments.digest();
+    let size = arguments.natural();
+    let hashes = arguments.hashes();
+    let proof = InclusionProof::new(index, root, size, hashes, None);
+    answer_to(answer, proof.verify_audit_path(&entry));
+    drop(proof);
+}
+
 /// The last argument as a checkpoint, if it is there.
 fn last_checkpoint(arguments: &mut Arguments<'_>) -> Option<SignedCheckpoint> {
     if arguments.is_empty() {

@@ -29,6 +29,7 @@ impl Cases for RekorCases {
             "asked" => asked::asked(arguments, answer),
             "borrowed_asked" => asked::borrowed_asked(arguments, answer),
             "proof" => checks::proof(arguments, answer),
+            "audit_path" => checks::audit_path(arguments, answer),
             "entry_inclusion" => checks::entry_inclusion(arguments, answer),
             "hash" => models::hash(arguments, answer),
             "hashes" => models::hashes(arguments, answer),

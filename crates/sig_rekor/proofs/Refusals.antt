@@ -23,7 +23,7 @@ use Rattle.sig_rekor.proofs.Steps.{chosen}
 use Rattle.sig_rekor.proofs.VerifyLaws.{of_tree, tree_accepted}
 use Rattle.sig_rekor.specs.NoteText.{note_text}
 use Rattle.sig_rekor.specs.Refusals.{IsTreeCause, IsTreeRefusal, IsSigned, IsSignedHead, IsHeadRefusal, IsPathCause}
-use Rattle.sig_rekor.specs.Refusals.{IsProofRefusal}
+use Rattle.sig_rekor.specs.Refusals.{IsPathRefusal, IsProofRefusal}
 use Rattle.sig_rekor.specs.Verify.{has_accepted_signature, signed_answer, tree_answer}
 use Rattle.sig_rekor.specs.Verify.{as_inclusion, inclusion_at, and_then, checkpoint_answer, proof_answer}
 use Rattle.sig_rekor.specs.declared.checkpoint.SignedCheckpoint.{SignedCheckpoint}
@@ -207,6 +207,15 @@ module _ (entry : List ℕ) (proof : InclusionProof) where
       → inclusion_at index entry proof ≡ Err (InclusionProofError cause)
   path-only_fails (pos n) cause is = rw ((answers n cause).1 (as_answer n cause is)) refl
   path-only_fails (negsuc n) cause is = rw (negative n cause is) refl
+
+pub path-refusals : (entry : List ℕ) (proof : InclusionProof) (e : SigstoreError)
+    → (inclusion_at proof.log_index entry proof ≡ Err e) ↔ IsPathRefusal entry proof e
+path-refusals entry proof e = (
+  path-fails entry proof proof.log_index e,
+  (λ refused.
+      path-only_fails entry proof proof.log_index refused.0 refused.2
+      ∙ ap (λ (x : SigstoreError). Err x) (sym refused.1)),
+)
 
 -- ---- the proof
 

@@ -1,6 +1,6 @@
 -- An inclusion proof is accepted if and only if the log vouches for the entry.
 use Rattle.std.proofs.Common.{◌≡◌, ℕ, Bool, true, cond, nat_lt, List, Option, Some, None, Result, Ok, Err, refl, ap}
-use Rattle.std.proofs.Common.{inl, inr, arith, ℤ, pos, negsuc, IsOkUnless, OnOk}
+use Rattle.std.proofs.Common.{inl, inr, arith, ℤ, pos, negsuc, IsOk, IsOkUnless, OnOk, sym, ◌∙◌, ◌↔◌}
 use Rattle.std.proofs.lemmas.Bool.{ltb-false, le-ltb}
 use Rattle.std.specs.Cmp.Lexicographic.{bytes_decides}
 use Rattle.std.specs.Str.{bytes_eq}
@@ -103,6 +103,15 @@ inclusion_accepted (pos index) entry proof is =
     ap as_inclusion ((inclusion_answers index proof.tree_size (leaf_of entry) proof.root_hash proof.hashes (Ok tt)).1
     is)
 inclusion_accepted (negsuc index) entry proof is = absurd is
+
+pub path_ok : (entry : List ℕ) (proof : InclusionProof) (r : Result (Unit {0}) SigstoreError)
+    → r ≡ inclusion_at proof.log_index entry proof → IsOk r ↔ IsIncludedAt proof.log_index entry proof
+path_ok entry proof (Ok _) is =
+    ((λ ok. included proof.log_index entry proof (sym is)), (λ held. refl))
+path_ok entry proof (Err e) is = (
+  (λ ok. absurd cc),
+  (λ held. let wrong = is ∙ inclusion_accepted proof.log_index entry proof held in absurd cc),
+)
 
 pub vouched : (accepts : List ℕ → List ℕ → Bool) (entry : List ℕ) (proof : InclusionProof)
     → proof_answer accepts entry proof ≡ Ok tt → IsVouched accepts entry proof

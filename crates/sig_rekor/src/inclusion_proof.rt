@@ -1,5 +1,5 @@
 //! `InclusionProof`: that an entry is in a log's tree, and a checkpoint that vouches for the tree.
-ghost use Rattle.std.specs.Prelude.{◌≡◌, OnOk, IsOkUnless, Ok, Err};
+ghost use Rattle.std.specs.Prelude.{◌≡◌, ◌↔◌, IsOk, OnOk, IsOkUnless, Ok, Err};
 ghost use Rattle.sig_base.specs.Answers.{Answers};
 ghost use Rattle.sig_base.specs.declared.error.SigstoreError.TheVariants.{OutOfMemory as Memory};
 ghost use Rattle.sig_key.specs.Key.{key_accepts};
@@ -26,7 +26,7 @@ pub struct InclusionProof {
 }
 
 impl InclusionProof {
-    ghost use Rattle.sig_rekor.specs.Verify.{proof_answer, IsVouched, inclusion_at};
+    ghost use Rattle.sig_rekor.specs.Verify.{proof_answer, IsIncludedAt, IsVouched, inclusion_at};
 
     /// The proof of these parts.
     pub fn new(
@@ -101,7 +101,22 @@ impl InclusionProof {
         self.check_path(entry)
     }
 
-    /// Checks the path from the entry's leaf.
+    /// Checks the audit path alone (RFC 6962 section 2.1.1): it leads from the entry's leaf to the root. No checkpoint
+    /// is looked at, so that whose root it is stays open. It takes no memory.
+    ///
+    /// Errors, each an `InclusionProofError`, the first that applies:
+    /// - `IndexGtTreeSize`: the index is negative or not below the size;
+    /// - `WrongProofSize`: another number of hashes;
+    /// - `MismatchedRoot`: another root.
+    ///
+    /// `laws::path_refusals` says when each comes.
+    pub fn verify_audit_path(&self, entry: &[u8]) -> Result<()>
+        ensures answer { result ≡ inclusion_at self.now.log_index entry.now self.now }
+        ensures ok { IsOk result ↔ IsIncludedAt self.now.log_index entry.now self.now }
+    {
+        self.check_path(entry)
+    }
+
     fn check_path(&self, entry: &[u8]) -> Result<()>
         ensures { result ≡ inclusion_at self.now.log_index entry.now self.now }
     {

@@ -12,10 +12,10 @@ ghost use Rattle.sig_rekor.specs.Faults.{IsCheckpointFault, IsNoteFault, IsSigna
 ghost use Rattle.sig_rekor.specs.HashFaults.{IsHashOf, IsHashFault, IsHashesFault, IsProofOf, IsProofFault};
 ghost use Rattle.sig_rekor.specs.HashText.{hash_in, hashes_from};
 ghost use Rattle.sig_rekor.specs.NoteText.{is_blank, note_of};
-ghost use Rattle.sig_rekor.specs.Refusals.{IsProofRefusal, IsTreeRefusal};
+ghost use Rattle.sig_rekor.specs.Refusals.{IsPathRefusal, IsProofRefusal, IsTreeRefusal};
 ghost use Rattle.sig_rekor.specs.RekorProof.{inclusion_proof_from_rekor};
 ghost use Rattle.sig_rekor.specs.SignatureText.{signature_of};
-ghost use Rattle.sig_rekor.specs.Verify.{proof_answer, tree_answer};
+ghost use Rattle.sig_rekor.specs.Verify.{inclusion_at, proof_answer, tree_answer};
 ghost use Rattle.sig_rekor.specs.declared.checkpoint.SignedCheckpoint.{SignedCheckpoint as Signed};
 ghost use Rattle.sig_rekor.specs.declared.inclusion_proof.InclusionProof.{InclusionProof as Proof};
 ghost use Rattle.sig_rekor.specs.declared.rekor_proof.RekorInclusionProof.{RekorInclusionProof as ApiProof};
@@ -116,6 +116,14 @@ pub fn checkpoint_faults()
 pub fn tree_refusals()
     ensures { (checkpoint : Signed) (root : List ℕ) (size : ℕ) (error : SigstoreError) →
         (tree_answer checkpoint root size ≡ Err error) ↔ IsTreeRefusal checkpoint.note root size error }
+{}
+
+/// Each error of an audit path's check comes if and only if the rules before its own hold and its own does not: a leaf
+/// has the index; there are as many hashes as its path has; they lead from the entry's leaf to the root. It has no
+/// code.
+pub fn path_refusals()
+    ensures { (entry : List ℕ) (proof : Proof) (error : SigstoreError) →
+        (inclusion_at proof.log_index entry proof ≡ Err error) ↔ IsPathRefusal entry proof error }
 {}
 
 /// Each error of an inclusion proof's check comes if and only if the rules before its own hold and its own does not: a
