@@ -10,10 +10,10 @@ ghost use Rattle.sig_checked_bundle.specs.Refusals.{IsCause};
 ghost use Rattle.sig_checked_bundle.specs.declared.bundle_error.BundleErrorKind.{BundleErrorKind as error_type};
 
 use crate::bundle_error::BundleErrorKind;
-use crate::content_check::{CheckedContent, checked_content};
+use crate::content_check::{CheckedContent, check_content_and_envelope};
 use crate::log_body::is_body_about;
-use crate::profile_check::{entry_among, meets_profile};
-use crate::signing_certificate::signing_chain;
+use crate::profile_check::{check_entry, check_profile};
+use crate::signing_certificate::check_certificates;
 use sig_base::{Bytes, OutOfMemory, OwnedList};
 use sig_bundle::{Bundle, TransparencyLogEntry};
 use sig_certificate::Certificate;
@@ -153,12 +153,10 @@ fn check_bundle(alloc: Global, input: &Bundle) -> Result<CheckedBundle, BundleEr
         return Err(BundleErrorKind::VerificationMaterialMissing);
     };
     // The links `material`, of what it holds, `certificate`, `leaf` and `root-in-chain`.
-    let chain = signing_chain(alloc, &material.content)?;
-    // The links `content` and `envelope`.
-    let content = checked_content(alloc, &input.content)?;
-    // The link `entry`, and the link `profile`.
-    let entry = entry_among(&material.tlog_entries)?;
-    meets_profile(alloc, &input.media_type, entry)?;
+    let chain = check_certificates(alloc, &material.content)?;
+    let content = check_content_and_envelope(alloc, &input.content)?;
+    let entry = check_entry(&material.tlog_entries)?;
+    check_profile(alloc, &input.media_type, entry)?;
     let entry = entry.copy(alloc)?;
     Ok(CheckedBundle {
         certificate: chain.certificate,

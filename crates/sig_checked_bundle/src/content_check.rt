@@ -41,8 +41,9 @@ pub(crate) struct ContentWithSignature {
     pub(crate) content: CheckedContent,
 }
 
-/// The content. Fails with `SignatureMissing` if and only if there is none; then with the error of the envelope.
-pub(crate) fn checked_content(
+/// The links `content` and `envelope`: the content. Fails with `SignatureMissing` if and only if there is none; then
+/// with the error of the envelope.
+pub(crate) fn check_content_and_envelope(
     alloc: Global,
     content: &Option<Content>,
 ) -> Result<ContentWithSignature, BundleErrorKind>

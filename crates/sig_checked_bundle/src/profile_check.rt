@@ -14,8 +14,8 @@ use sig_bundle::{LogEntries, ProofFields, TransparencyLogEntry};
 use std::alloc::Global;
 use std::str::FromStr;
 
-/// The one log entry. Fails with `TlogEntry` and their number if and only if there is not one.
-pub(crate) fn entry_among(entries: &LogEntries) -> Result<&TransparencyLogEntry, BundleErrorKind>
+/// The link `entry`: the one log entry. Fails with `TlogEntry` and their number if and only if there is not one.
+pub(crate) fn check_entry(entries: &LogEntries) -> Result<&TransparencyLogEntry, BundleErrorKind>
     ensures { borrowed_now result ≡ entry_among entries.now }
 {
     match entries.only() {
@@ -24,12 +24,12 @@ pub(crate) fn entry_among(entries: &LogEntries) -> Result<&TransparencyLogEntry,
     }
 }
 
-/// Whether the entry has what the media type demands: under version 0.1 the log's promise to include it, under 0.2 and
-/// 0.3 an inclusion proof with a checkpoint.
+/// The link `profile`: whether the entry has what the media type demands, under version 0.1 the log's promise to
+/// include it, under 0.2 and 0.3 an inclusion proof with a checkpoint.
 ///
 /// Fails with `BundleProfile` of `Unknown` if and only if the media type names no version; then with that of
 /// `Bundle01Profile` or `Bundle02Profile` of the first that is missing.
-pub(crate) fn meets_profile(
+pub(crate) fn check_profile(
     alloc: Global,
     media_type: &Text,
     entry: &TransparencyLogEntry,

@@ -29,13 +29,14 @@ pub(crate) struct SigningChain {
     pub(crate) further: OwnedList<Certificate>,
 }
 
-/// Returns the signing certificate with the further ones: the links `material` to `root-in-chain`, in order.
+/// The links `material`, `certificate`, `leaf` and `root-in-chain`, in order. Returns the signing certificate with the
+/// further ones.
 ///
 /// Fails with `VerificationMaterialContentUnsupported` if and only if the material holds no certificates: no content,
 /// or a hint at a key; then with `TooManyCertificates` and their number if there are more than 17, of which none is
 /// read; with `CertificateMalformed` and the index of the first that cannot be read, `CertificatesMissing` if a chain
 /// is empty, `NoLeaf` if the first is not a leaf, and `RootInChain` if a further one is a root.
-pub(crate) fn signing_chain(
+pub(crate) fn check_certificates(
     alloc: Global,
     content: &Option<MaterialContent>,
 ) -> Result<SigningChain, BundleErrorKind>

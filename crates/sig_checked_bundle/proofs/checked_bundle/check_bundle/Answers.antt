@@ -20,13 +20,13 @@ returns-in_err-entry c =
     (seen_content c.in_ok-content.content) c.in_ok-content.ensures c.in_err-entry.field-0.0
     (sym c.in_err-entry.ensures))
 
-pub returns-in_err-meets_profile : goal.returns-in_err-meets_profile
-returns-in_err-meets_profile c =
-    let is : c.from_residual-in_err-meets_profile.result ≡ Err c.in_err-meets_profile.field-0.0 =
-    search (rules, c.from_residual-in_err-meets_profile) in
+pub returns-in_err-check_profile : goal.returns-in_err-check_profile
+returns-in_err-check_profile c =
+    let is : c.from_residual-in_err-check_profile.result ≡ Err c.in_err-check_profile.field-0.0 =
+    search (rules, c.from_residual-in_err-check_profile) in
     rw is (profile_failed c.args.input.now c.in-Some.material c.in-Some.is c.in_ok-chain.chain c.in_ok-chain.ensures
     (seen_content c.in_ok-content.content) c.in_ok-content.ensures c.in_ok-entry.entry.now (sym c.in_ok-entry.ensures)
-    c.in_err-meets_profile.field-0.0 c.in_err-meets_profile.ensures)
+    c.in_err-check_profile.field-0.0 c.in_err-check_profile.ensures)
 
 pub returns-in_err-entry-2 : goal.returns-in_err-entry-2
 returns-in_err-entry-2 c =
@@ -39,4 +39,4 @@ pub returns : goal.returns
 returns c =
     all_checked c.args.input.now c.in-Some.material c.in-Some.is c.in_ok-chain.chain c.in_ok-chain.ensures
     (seen_content c.in_ok-content.content) c.in_ok-content.ensures c.in_ok-entry.entry.now (sym c.in_ok-entry.ensures)
-    c.in_ok-meets_profile.ensures c.in_ok-entry-2.entry c.in_ok-entry-2.ensures
+    c.in_ok-check_profile.ensures c.in_ok-entry-2.entry c.in_ok-entry-2.ensures

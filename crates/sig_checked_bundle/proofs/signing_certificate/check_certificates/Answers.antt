@@ -6,7 +6,7 @@ use Rattle.sig_checked_bundle.proofs.SigningCertificateLaws.{rootless, unfit}
 use Rattle.sig_checked_bundle.specs.SigningCertificate.{is_root}
 use Rattle.sig_checked_bundle.specs.declared.bundle_error.BundleErrorKind.TheVariants.{CertificatesMissing, NoLeaf}
 use Rattle.sig_checked_bundle.specs.declared.bundle_error.BundleErrorKind.TheVariants.{RootInChain}
-use Rattle.sig_checked_bundle.proofs.signing_certificate.signing_chain.Goals as goal
+use Rattle.sig_checked_bundle.proofs.signing_certificate.check_certificates.Goals as goal
 
 pub returns-in_default-split_first : goal.returns-in_default-split_first
 returns-in_default-split_first c =
