@@ -25,7 +25,7 @@ use Rattle.sig_verify.specs.LogEntry.{vouched}
 use Rattle.sig_verify.specs.declared.logged_entry.LoggedEntry.{LoggedEntry}
 use Rattle.sig_verify.specs.declared.offline_error.OfflineError.{OfflineError}
 use Rattle.sig_attestation.proofs.LogFaults.{said_vouched, unvouched, vouched_said}
-use Rattle.sig_attestation.proofs.LoggedOnce.{logged_decides}
+use Rattle.sig_attestation.proofs.OneSignatureBodies.{logged_decides}
 use Rattle.sig_attestation.proofs.StepOutcomes.{Tells, tells_done, tells_ends, tells_some, tells_then}
 use Rattle.sig_attestation.specs.Attestation.{evidence_answer, evidence_of}
 use Rattle.sig_attestation.specs.Body.{body_answer, if_logged, is_logged_once}

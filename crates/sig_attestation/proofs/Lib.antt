@@ -5,6 +5,6 @@ mod ImageCauses
 mod StatementParts
 mod LogFaults
 mod LogRefusals
-mod LoggedOnce
+mod OneSignatureBodies
 mod SaidImages
 mod StepOutcomes

@@ -12,7 +12,7 @@ use Rattle.sig_json.specs.Member.{required, required_text, required_list, option
 use Rattle.sig_json.specs.Only.{only}
 use Rattle.sig_json.specs.Record.{record_in, record_with}
 use Rattle.sig_json.specs.declared.error.JsonError.{JsonError}
-use Rattle.sig_json.proofs.Only.{required-only}
+use Rattle.sig_json.proofs.NamedMembers.{required-only}
 use Rattle.sig_json.proofs.Records.{record_with-same}
 use Rattle.sig_json.proofs.Parts.{required-part, list_each-part, record_in-part, optional-any}
 use Rattle.sig_dsse.specs.Statement.{DigestTexts, Subject, Statement, subject_of, statement_in, statement_of}

@@ -5,7 +5,7 @@ use Rattle.std.proofs.lemmas.List.{length-take-le, take_all}
 use Rattle.std.proofs.lemmas.Option.{slice_get_within, get_or_from_slice_get}
 use Rattle.std.specs.List.{AllByRecursion}
 use Rattle.sig_merkle.proofs.Exhibits.{front-or-broken}
-use Rattle.sig_merkle.proofs.SubproofAccepted.{take-take}
+use Rattle.sig_merkle.proofs.AcceptedSubproofs.{take-take}
 use Rattle.sig_merkle.specs.ConsistencyAnswer.{IsConsistent}
 use Rattle.sig_merkle.specs.HashedText.{AreHashes, IsBroken}
 use Rattle.sig_merkle.specs.Root.{root}

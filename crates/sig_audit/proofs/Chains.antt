@@ -6,7 +6,7 @@ use Rattle.std.proofs.lemmas.Option.{get_or_from_slice_get}
 use Rattle.std.specs.List.{AllByRecursion}
 use Rattle.sig_base.specs.declared.collision.Collision.{Collision}
 use Rattle.sig_merkle.proofs.GrowthMeetings.{consistent_sizes}
-use Rattle.sig_merkle.proofs.SubproofAccepted.{take-take}
+use Rattle.sig_merkle.proofs.AcceptedSubproofs.{take-take}
 use Rattle.sig_merkle.specs.ConsistencyAnswer.{IsConsistent}
 use Rattle.sig_merkle.specs.Fronts.{Ascend, front_root}
 use Rattle.sig_merkle.specs.Root.{root}

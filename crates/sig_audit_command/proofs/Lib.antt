@@ -4,5 +4,5 @@ pub mod Replies
 pub mod AuditReplies
 pub mod QuestionReplies
 pub mod HeadRows
-pub mod AuditRowsSuffice
+pub mod SufficientAuditRows
 pub mod Keys

@@ -10,13 +10,13 @@ pub mod ResultSteps
 pub mod TextEntries
 pub mod Decisions
 pub mod SeenTexts
-pub mod ComesLaws
+pub mod ResultRuleLaws
 pub mod RuleLaws
 pub mod ByteLists
 pub mod PairedLists
 pub mod PartEquality
 pub mod IntOrders
-pub mod EachFrom
+pub mod IndexedElements
 pub mod Utf8Texts
 pub mod Base64Texts
 pub mod Digits

@@ -1,6 +1,6 @@
 -- Of a bundle's object no member but these is looked at.
 use Rattle.std.proofs.Common.{◌≡◌, ℕ, List, [], ◌∷◌, codes, None, Some, option_map, refl}
-use Rattle.sig_json.proofs.Only.{optional_or-only}
+use Rattle.sig_json.proofs.NamedMembers.{optional_or-only}
 use Rattle.sig_json.proofs.Records.{record_with-same}
 use Rattle.sig_json.specs.Data.{Data}
 use Rattle.sig_json.specs.Kinds.{text_of}

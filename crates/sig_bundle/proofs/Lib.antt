@@ -2,9 +2,9 @@ pub mod Equality
 mod PlainTexts
 pub mod PromiseLaws
 mod ProofLaws
-pub mod EntriesBack
+pub mod EntryReadings
 pub mod EntryTrees
 pub mod FoundMembers
-pub mod MaterialBack
+pub mod MaterialReadings
 pub mod BundleDepths
 pub mod BundleMembers

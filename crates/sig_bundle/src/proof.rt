@@ -59,7 +59,7 @@ fn hash_of(bytes: &[u8], error: ProofFieldsError) -> Result<[u8; 32], ProofField
 }
 
 /// The hashes of an audit path. Fails with `HashLength` of the first that has not 32 bytes.
-#[tactic(auto, using(sig_base::proofs::EachFrom::each_left))]
+#[tactic(auto, using(sig_base::proofs::IndexedElements::each_left))]
 fn hashes_of(alloc: Global, entries: &Entries) -> Result<Hashes, ProofFieldsError>
     ensures { Answers ProofFieldsError.OutOfMemory (λ hashes. hashes) result (path_hashes_from 0 entries.now) }
 {

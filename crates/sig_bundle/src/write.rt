@@ -26,7 +26,7 @@ pub fn bundle_text(alloc: Global, bundle: &Bundle) -> Result<Text, OutOfMemory>
 }
 
 /// The tree of a bundle.
-#[tactic(auto, using(crate::proofs::MaterialBack::back), unfolding(crate::specs::BundleTree::bundle_tree))]
+#[tactic(auto, using(crate::proofs::MaterialReadings::back), unfolding(crate::specs::BundleTree::bundle_tree))]
 fn write_bundle(alloc: Global, bundle: &Bundle) -> Result<Document, OutOfMemory>
     ensures tree { IfOk result (λ document. document_tree document ≡ bundle_tree bundle.now) }
     ensures back { IfOk result (λ _. bundle_of (bundle_tree bundle.now) ≡ Some bundle.now) }

@@ -24,7 +24,7 @@ impl ElementWriter for DigestWriter {
 
     ghost meaning = { digest_of };
 
-    #[tactic(auto, using(crate::proofs::MaterialBack::back), unfolding(crate::specs::BundleTree::digest_tree))]
+    #[tactic(auto, using(crate::proofs::MaterialReadings::back), unfolding(crate::specs::BundleTree::digest_tree))]
     fn write(alloc: Global, item: &Bytes) -> Result<Document, OutOfMemory> {
         let object = Object::new(alloc).with_bytes(alloc, "digest", item.as_slice())?;
         Ok(object.into_document())
@@ -41,7 +41,7 @@ impl ElementWriter for MessageSignatureWriter {
 
     ghost meaning = { message_signature_of };
 
-    #[tactic(auto, using(crate::proofs::MaterialBack::back), unfolding(crate::specs::BundleTree::message_tree))]
+    #[tactic(auto, using(crate::proofs::MaterialReadings::back), unfolding(crate::specs::BundleTree::message_tree))]
     fn write(alloc: Global, item: &MessageSignature) -> Result<Document, OutOfMemory> {
         let object = Object::new(alloc)
             .with_bytes(alloc, "signature", item.signature.as_slice())?
@@ -60,7 +60,7 @@ impl ElementWriter for SignatureWriter {
 
     ghost meaning = { dsse_signature_of };
 
-    #[tactic(auto, using(crate::proofs::MaterialBack::back), unfolding(crate::specs::BundleTree::dsse_signature_tree))]
+    #[tactic(auto, using(crate::proofs::MaterialReadings::back), unfolding(crate::specs::BundleTree::dsse_signature_tree))]
     fn write(alloc: Global, item: &DsseSignature) -> Result<Document, OutOfMemory> {
         let object = Object::new(alloc)
             .with_bytes(alloc, "sig", item.sig.as_slice())?
@@ -97,7 +97,7 @@ impl ElementWriter for EnvelopeWriter {
 
     ghost meaning = { envelope_of };
 
-    #[tactic(auto, using(crate::proofs::MaterialBack::back), unfolding(crate::specs::BundleTree::envelope_tree))]
+    #[tactic(auto, using(crate::proofs::MaterialReadings::back), unfolding(crate::specs::BundleTree::envelope_tree))]
     fn write(alloc: Global, item: &DsseEnvelope) -> Result<Document, OutOfMemory> {
         let object = Object::new(alloc)
             .with_bytes(alloc, "payload", item.payload.as_slice())?

@@ -26,7 +26,7 @@ impl ElementWriter for LogIdWriter {
 
     ghost meaning = { log_id_of };
 
-    #[tactic(auto, using(crate::proofs::EntriesBack::back), unfolding(crate::specs::BundleTree::log_id_tree))]
+    #[tactic(auto, using(crate::proofs::EntryReadings::back), unfolding(crate::specs::BundleTree::log_id_tree))]
     fn write(alloc: Global, item: &Bytes) -> Result<Document, OutOfMemory> {
         let object = Object::new(alloc).with_bytes(alloc, "keyId", item.as_slice())?;
         Ok(object.into_document())
@@ -43,7 +43,7 @@ impl ElementWriter for PromiseWriter {
 
     ghost meaning = { promise_of };
 
-    #[tactic(auto, using(crate::proofs::EntriesBack::back), unfolding(crate::specs::BundleTree::promise_record_tree))]
+    #[tactic(auto, using(crate::proofs::EntryReadings::back), unfolding(crate::specs::BundleTree::promise_record_tree))]
     fn write(alloc: Global, item: &Bytes) -> Result<Document, OutOfMemory> {
         let object = Object::new(alloc).with_bytes(alloc, "signedEntryTimestamp", item.as_slice())?;
         Ok(object.into_document())
@@ -60,7 +60,7 @@ impl ElementWriter for CheckpointWriter {
 
     ghost meaning = { checkpoint_envelope_of };
 
-    #[tactic(auto, using(crate::proofs::EntriesBack::back), unfolding(crate::specs::BundleTree::checkpoint_tree))]
+    #[tactic(auto, using(crate::proofs::EntryReadings::back), unfolding(crate::specs::BundleTree::checkpoint_tree))]
     fn write(alloc: Global, item: &Text) -> Result<Document, OutOfMemory> {
         let object = Object::new(alloc).with_text(alloc, "envelope", item.as_str())?;
         Ok(object.into_document())
@@ -77,7 +77,7 @@ impl ElementWriter for KindVersionWriter {
 
     ghost meaning = { kind_version_of };
 
-    #[tactic(auto, using(crate::proofs::EntriesBack::back), unfolding(crate::specs::BundleTree::kind_version_tree))]
+    #[tactic(auto, using(crate::proofs::EntryReadings::back), unfolding(crate::specs::BundleTree::kind_version_tree))]
     fn write(alloc: Global, item: &KindVersion) -> Result<Document, OutOfMemory> {
         let object = Object::new(alloc)
             .with_text(alloc, "kind", item.kind.as_str())?
@@ -96,7 +96,7 @@ impl ElementWriter for ProofWriter {
 
     ghost meaning = { proof_of };
 
-    #[tactic(auto, using(crate::proofs::EntriesBack::back), unfolding(crate::specs::BundleTree::proof_tree))]
+    #[tactic(auto, using(crate::proofs::EntryReadings::back), unfolding(crate::specs::BundleTree::proof_tree))]
     fn write(alloc: Global, item: &ProofFields) -> Result<Document, OutOfMemory> {
         let object = Object::new(alloc)
             .with_integer(alloc, "logIndex", &item.log_index)?
@@ -118,7 +118,7 @@ impl ElementWriter for EntryWriter {
 
     ghost meaning = { entry_of };
 
-    #[tactic(auto, using(crate::proofs::EntriesBack::back), unfolding(crate::specs::BundleTree::entry_tree))]
+    #[tactic(auto, using(crate::proofs::EntryReadings::back), unfolding(crate::specs::BundleTree::entry_tree))]
     fn write(alloc: Global, item: &TransparencyLogEntry) -> Result<Document, OutOfMemory> {
         let object = Object::new(alloc)
             .with_integer(alloc, "logIndex", &item.log_index)?

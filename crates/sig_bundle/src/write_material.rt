@@ -24,7 +24,7 @@ impl ElementWriter for CertificateWriter {
 
     ghost meaning = { certificate_of };
 
-    #[tactic(auto, using(crate::proofs::MaterialBack::back), unfolding(crate::specs::BundleTree::certificate_tree))]
+    #[tactic(auto, using(crate::proofs::MaterialReadings::back), unfolding(crate::specs::BundleTree::certificate_tree))]
     fn write(alloc: Global, item: &Bytes) -> Result<Document, OutOfMemory> {
         let object = Object::new(alloc).with_bytes(alloc, "rawBytes", item.as_slice())?;
         Ok(object.into_document())
@@ -41,7 +41,7 @@ impl ElementWriter for ChainWriter {
 
     ghost meaning = { chain_of };
 
-    #[tactic(auto, using(crate::proofs::MaterialBack::back), unfolding(crate::specs::BundleTree::chain_tree))]
+    #[tactic(auto, using(crate::proofs::MaterialReadings::back), unfolding(crate::specs::BundleTree::chain_tree))]
     fn write(alloc: Global, item: &Entries) -> Result<Document, OutOfMemory> {
         let object = Object::new(alloc).with_list::<CertificateWriter>(
             alloc,
@@ -62,7 +62,7 @@ impl ElementWriter for MaterialWriter {
 
     ghost meaning = { material_of };
 
-    #[tactic(auto, using(crate::proofs::MaterialBack::back), unfolding(crate::specs::BundleTree::material_tree))]
+    #[tactic(auto, using(crate::proofs::MaterialReadings::back), unfolding(crate::specs::BundleTree::material_tree))]
     fn write(alloc: Global, item: &VerificationMaterial) -> Result<Document, OutOfMemory> {
         let object = with_material_content(Object::new(alloc), alloc, &item.content)?;
         let object = object.with_list::<SparseEntryWriter>(

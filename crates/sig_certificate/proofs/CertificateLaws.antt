@@ -11,7 +11,7 @@ use Rattle.sig_der.proofs.Bytes.{IsBytes}
 use Rattle.sig_der.proofs.Takings.{take_tag_takes, take_tag_again, take_whole_takes, take_whole_again}
 use Rattle.sig_der.proofs.KeyInfos.{content_fits, first_fits, rest_fits, algorithm_at_takes, bits_of_takes}
 use Rattle.sig_der.proofs.KeyInfos.{bits_of_again}
-use Rattle.sig_der.proofs.Many.{many_at_takes, many_at_again, many_at_none}
+use Rattle.sig_der.proofs.ElementLists.{many_at_takes, many_at_again, many_at_none}
 use Rattle.sig_certificate.specs.Certificate.{Extension, Cert, IsCertificate, IsExtension, AreExtensions}
 use Rattle.sig_certificate.specs.Certificate.{IsAlgorithmText}
 use Rattle.sig_certificate.specs.Cutting.{Preamble, Binding, Outer, Parts, before, outer_at, preamble_at, binding_at, after_ids}

@@ -10,7 +10,7 @@ use Rattle.sig_der.proofs.Bytes.{IsBytes, IsBytes-right}
 use Rattle.sig_der.proofs.Takings.{take_tag_takes, take_tag_again, take_tag_shrinks, take_whole_takes}
 use Rattle.sig_der.proofs.Takings.{take_whole_again, take_optional_takes, take_optional_here, take_optional_absent}
 use Rattle.sig_der.proofs.Takings.{IsOptional}
-use Rattle.sig_der.proofs.Many.{IsReader}
+use Rattle.sig_der.proofs.ElementLists.{IsReader}
 use Rattle.sig_der.proofs.KeyInfos.{first_fits, rest_fits, some_left, left_some}
 use Rattle.sig_certificate.specs.Certificate.{Extension, IsFlag, IsExtension}
 use Rattle.sig_certificate.specs.Cutting.{boolean_of, flag_of, flag_at, extension_at}

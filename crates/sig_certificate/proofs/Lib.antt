@@ -4,8 +4,8 @@ pub mod PreambleLaws
 pub mod BindingLaws
 pub mod CertificateLaws
 pub mod Readings
-pub mod HeldLaws
-mod SaidLaws
+pub mod ExtensionCountLaws
+mod SingleValueLaws
 mod ProfileFaults
 mod TrustFaults
 mod Clauses

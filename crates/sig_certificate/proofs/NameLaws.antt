@@ -13,7 +13,7 @@ use Rattle.sig_der.specs.FrontReaders.{take_any, take_tag, take_whole, many_with
 use Rattle.sig_der.proofs.Bytes.{IsBytes, IsBytes-right}
 use Rattle.sig_der.proofs.Takings.{take_any_takes, take_any_again, take_tag_takes, take_tag_again, take_whole_takes}
 use Rattle.sig_der.proofs.Takings.{take_whole_again}
-use Rattle.sig_der.proofs.Many.{many_at_none, many_at_more}
+use Rattle.sig_der.proofs.ElementLists.{many_at_none, many_at_more}
 use Rattle.sig_der.proofs.KeyInfos.{content_fits, first_fits, rest_fits, some_left, left_some, none_left}
 use Rattle.sig_certificate.specs.Names.{Name, Email, Uri, Other, Unread, is_context, is_ascii_text, other_value}
 use Rattle.sig_certificate.specs.Names.{other_name, general_name_of, name_at, general_names_of}

@@ -28,10 +28,10 @@ use Rattle.sig_certificate.specs.Faults.{usage_malformed, usage_missing, neither
 use Rattle.sig_certificate.specs.Faults.{other_issuer, IsLeafFault, leaf_version, is_authority, leaf_usage_malformed}
 use Rattle.sig_certificate.specs.Faults.{leaf_usage_missing, no_digital_signature, purposes_malformed}
 use Rattle.sig_certificate.specs.Faults.{purposes_missing, no_code_signing}
-use Rattle.sig_certificate.proofs.SaidLaws.{said, constraints_absent, constraints_bad, constraints_say, no_constraints}
-use Rattle.sig_certificate.proofs.SaidLaws.{bad_constraints, said_constraints, usage_absent, usage_bad, usage_says}
-use Rattle.sig_certificate.proofs.SaidLaws.{no_usage, bad_usage, said_usage, purposes_absent, purposes_bad}
-use Rattle.sig_certificate.proofs.SaidLaws.{purposes_say, no_purposes, bad_purposes, said_purposes}
+use Rattle.sig_certificate.proofs.SingleValueLaws.{said, constraints_absent, constraints_bad, constraints_say, no_constraints}
+use Rattle.sig_certificate.proofs.SingleValueLaws.{bad_constraints, said_constraints, usage_absent, usage_bad, usage_says}
+use Rattle.sig_certificate.proofs.SingleValueLaws.{no_usage, bad_usage, said_usage, purposes_absent, purposes_bad}
+use Rattle.sig_certificate.proofs.SingleValueLaws.{purposes_say, no_purposes, bad_purposes, said_purposes}
 
 -- ---- version 3
 

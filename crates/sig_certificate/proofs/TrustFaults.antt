@@ -25,8 +25,8 @@ use Rattle.sig_certificate.specs.Faults.{Says, SaysUsage, MaySign, MaySignCode, 
 use Rattle.sig_certificate.specs.Faults.{may_not_sign_code, IsNamesFault, unnamed, IsValidityFault, not_begun}
 use Rattle.sig_certificate.specs.Faults.{IsExpirationFault, too_early, too_late, IsTrustFault, of_usages, of_names}
 use Rattle.sig_certificate.specs.Faults.{of_validity, of_expiration, IsWithinValidity, IsTrusted}
-use Rattle.sig_certificate.proofs.HeldLaws.{named_one}
-use Rattle.sig_certificate.proofs.SaidLaws.{usage_says, said_usage, purposes_say, said_purposes}
+use Rattle.sig_certificate.proofs.ExtensionCountLaws.{named_one}
+use Rattle.sig_certificate.proofs.SingleValueLaws.{usage_says, said_usage, purposes_say, said_purposes}
 
 -- ---- key usages
 

@@ -12,7 +12,7 @@ use Rattle.sig_der.specs.Tag.{BIT_STRING, BOOLEAN, INTEGER, OBJECT_IDENTIFIER, S
 use Rattle.sig_der.proofs.Bytes.{IsBytes, IsBytes-right}
 use Rattle.sig_der.proofs.Takings.{take_tag_takes, take_tag_again, take_whole_takes, take_whole_again}
 use Rattle.sig_der.proofs.Takings.{take_optional_here, take_optional_absent, take_optional_takes, IsOptional}
-use Rattle.sig_der.proofs.Many.{IsReader, many_at_takes, many_at_again}
+use Rattle.sig_der.proofs.ElementLists.{IsReader, many_at_takes, many_at_again}
 use Rattle.sig_der.proofs.KeyInfos.{content_fits, some_left, left_some, none_left}
 use Rattle.sig_certificate.specs.declared.values.KeyUsage.{KeyUsage}
 use Rattle.sig_certificate.specs.declared.values.BasicConstraints.{BasicConstraints}

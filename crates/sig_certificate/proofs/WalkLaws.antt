@@ -8,7 +8,7 @@ use Rattle.sig_base.specs.OptionSteps.{◌>>=◌}
 use Rattle.sig_base.proofs.OptionSteps.{bind_is, unless_is, some, some_is}
 use Rattle.sig_der.specs.FrontReaders.{take_any, take_tag, many_at}
 use Rattle.sig_der.proofs.Takings.{take_any_shrinks, take_tag_shrinks}
-use Rattle.sig_der.proofs.Many.{Shrinks, many_at_none, many_at_more}
+use Rattle.sig_der.proofs.ElementLists.{Shrinks, many_at_none, many_at_more}
 use Rattle.sig_certificate.specs.Names.{Name, general_name_of, name_at}
 use Rattle.sig_certificate.specs.Values.{oid_at}
 use Rattle.sig_der.specs.Tag.{OBJECT_IDENTIFIER}

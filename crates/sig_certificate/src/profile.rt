@@ -17,7 +17,7 @@ use sig_der::oid::{BASIC_CONSTRAINTS, CODE_SIGNING, EXTENDED_KEY_USAGE, KEY_USAG
 
 /// Returns whether the basic constraints of the certificate are critical, and what they say, `None` if there are none.
 /// Fails with `Malformed` if they are malformed or a duplicate extension. For the pools of sig_x509.
-#[tactic(auto, using(crate::proofs::HeldLaws::held_laws))]
+#[tactic(auto, using(crate::proofs::ExtensionCountLaws::held_laws))]
 pub fn basic_constraints(
     certificate: &Certificate,
 ) -> Result<Option<(bool, BasicConstraints)>, CertificateValidationError>
@@ -90,7 +90,7 @@ fn missing(part: PartName) -> CertificateValidationError
 
 /// Returns what the key usage of the certificate says, `None` if there is none. Fails with `Malformed` if it is
 /// malformed or a duplicate extension.
-#[tactic(auto, using(crate::proofs::HeldLaws::held_laws))]
+#[tactic(auto, using(crate::proofs::ExtensionCountLaws::held_laws))]
 pub(crate) fn key_usage(
     certificate: &Certificate,
 ) -> Result<Option<KeyUsage>, CertificateValidationError>
@@ -186,7 +186,7 @@ fn bit_unset(part: PartName) -> CertificateValidationError
 
 /// Returns whether code signing is among the purposes of the certificate's extended key usage, `None` if there is
 /// none. Fails with `Malformed` if it is malformed or a duplicate extension.
-#[tactic(auto, using(crate::proofs::HeldLaws::held_laws))]
+#[tactic(auto, using(crate::proofs::ExtensionCountLaws::held_laws))]
 pub(crate) fn code_signing(
     certificate: &Certificate,
 ) -> Result<Option<bool>, CertificateValidationError>

@@ -93,7 +93,7 @@ fn check_names(certificate: &Certificate) -> Result<()>
 }
 
 /// Whether exactly one well-formed extension of alternative names is there.
-#[tactic(auto, using(crate::proofs::HeldLaws::named_laws))]
+#[tactic(auto, using(crate::proofs::ExtensionCountLaws::named_laws))]
 fn is_named(certificate: &Certificate) -> bool
     ensures { result ≡ is_named (with_oid subject_alternative_name certificate.now.extensions) }
 {

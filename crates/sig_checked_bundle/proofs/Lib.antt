@@ -1,5 +1,5 @@
 pub mod Certificates
-mod RefusalsAreCaused
+mod CausedRefusals
 mod CheckedLaws
 pub mod ContentLaws
 pub mod Hashedrekords
@@ -8,7 +8,7 @@ mod PassedLaws
 mod ProfileLaws
 mod RefusalCauses
 pub mod SigningCertificateLaws
-mod CausesRefuse
+mod RefusedBundles
 pub mod VersionLaws
 pub mod DsseBodies
 pub mod PayloadDigests

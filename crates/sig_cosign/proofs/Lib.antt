@@ -1,7 +1,7 @@
 mod BundleLayers
 mod ManifestLayers
-mod Firsts
-mod LayersOf
+mod FirstLayers
+mod DescriptorLayers
 mod OciLayers
 mod SignedLayers
-mod SignersOf
+mod LayerSigners

@@ -8,7 +8,7 @@ use Rattle.sig_rekor.specs.CheckpointText.{checkpoint_text}
 use Rattle.sig_json.specs.Document.{document_of}
 use Rattle.sig_json.specs.Read.{max_depth}
 use Rattle.sig_json.specs.Written.{compact_text}
-use Rattle.sig_demo.proofs.Back.{request_by}
+use Rattle.sig_demo.proofs.RequestReadings.{request_by}
 use Rattle.sig_demo.specs.Request.{demo_key, demo_row, demo_scheme, hash_tree, request_tree, row_tree}
 use Rattle.sig_demo.specs.Log.{demo_checkpoint, demo_entry, demo_index}
 use Rattle.sig_demo.specs.declared.log.DemoLog.{DemoLog}

@@ -1,4 +1,4 @@
-pub mod Back
+pub mod RequestReadings
 pub mod Checkpoints
 pub mod Depths
 pub mod Logs

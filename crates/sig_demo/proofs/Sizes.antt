@@ -25,7 +25,7 @@ use Rattle.sig_rekor.specs.CheckpointText.{checkpoint_text, empty_line}
 use Rattle.sig_rekor.specs.NoteText.{note_text}
 use Rattle.sig_rekor.specs.SignatureText.{signature_text}
 use Rattle.sig_request.specs.Limit.{most_bytes}
-use Rattle.sig_demo.proofs.Back.{request_by}
+use Rattle.sig_demo.proofs.RequestReadings.{request_by}
 use Rattle.sig_demo.proofs.Logs.{length-entries}
 use Rattle.sig_demo.specs.Log.{demo_checkpoint, demo_entries, demo_entry, demo_index, demo_log, demo_signature}
 use Rattle.sig_demo.specs.Request.{demo_key, demo_row, demo_scheme, hash_tree, request_tree, row_over, row_tree}

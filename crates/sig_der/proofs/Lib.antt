@@ -7,9 +7,9 @@ pub mod Faults
 pub mod Causes
 pub mod Ranges
 pub mod Takings
-pub mod Many
+pub mod ElementLists
 pub mod Wholes
-pub mod Childs
+pub mod ChildElements
 pub mod DigitRuns
 pub mod DigitTexts
 pub mod TimeTexts

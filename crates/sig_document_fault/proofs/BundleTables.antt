@@ -18,8 +18,8 @@ use Rattle.sig_document_fault.proofs.Oneofs.{oneof_there}
 use Rattle.sig_document_fault.specs.BundleTable.{bundle_table, digest_table, dsse_signature_table, entry_table}
 use Rattle.sig_document_fault.specs.BundleTable.{envelope_table, material_table, message_signature_table}
 use Rattle.sig_document_fault.specs.CommonTable.{certificate_table, chain_table}
-use Rattle.sig_table.proofs.TableOf.{elements_table, not_optional, one_member, optional_holds, optional_or_holds}
-use Rattle.sig_table.proofs.TableOf.{optional_there, record_is, some_of-map, step}
+use Rattle.sig_table.proofs.RecordTables.{elements_table, not_optional, one_member, optional_holds, optional_or_holds}
+use Rattle.sig_table.proofs.RecordTables.{optional_there, record_is, some_of-map, step}
 use Rattle.sig_table.specs.Kinds.{bytes_table, object_table, text_table}
 use Rattle.sig_table.specs.Table.{elements, member_in, oneof_row, optional_row, row_holds}
 use Rattle.sig_table.specs.TableOf.{IsTableOf}

@@ -4,7 +4,7 @@ use Rattle.sig_json.specs.Kinds.{bytes_of, i64_of, text_of}
 use Rattle.sig_json.specs.Member.{list_each}
 use Rattle.sig_json.specs.CommonRecord.{certificate_of, chain_of, log_id_of}
 use Rattle.sig_document_fault.specs.CommonTable.{certificate_table, chain_table, log_id_table}
-use Rattle.sig_table.proofs.TableOf.{beyond_range_table, elements_table, one_member, other_kind_table}
+use Rattle.sig_table.proofs.RecordTables.{beyond_range_table, elements_table, one_member, other_kind_table}
 use Rattle.sig_table.specs.Kinds.{bytes_table, i64_table, text_table}
 use Rattle.sig_table.specs.Table.{elements}
 use Rattle.sig_table.specs.TableOf.{IsTableOf}

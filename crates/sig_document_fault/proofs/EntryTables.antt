@@ -8,8 +8,8 @@ use Rattle.sig_json.specs.CommonRecord.{log_id_of}
 use Rattle.sig_document_fault.specs.BundleTable.{checkpoint_table, entry_table, kind_version_table, promise_table}
 use Rattle.sig_document_fault.specs.BundleTable.{proof_table}
 use Rattle.sig_document_fault.specs.CommonTable.{log_id_table}
-use Rattle.sig_table.proofs.TableOf.{elements_table, not_optional, one_member, optional_holds, optional_or_holds}
-use Rattle.sig_table.proofs.TableOf.{record_is, step}
+use Rattle.sig_table.proofs.RecordTables.{elements_table, not_optional, one_member, optional_holds, optional_or_holds}
+use Rattle.sig_table.proofs.RecordTables.{record_is, step}
 use Rattle.sig_table.specs.Kinds.{bytes_table, i64_table, text_table}
 use Rattle.sig_table.specs.Table.{elements}
 use Rattle.sig_table.specs.TableOf.{IsTableOf}

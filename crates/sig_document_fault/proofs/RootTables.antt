@@ -10,8 +10,8 @@ use Rattle.sig_document_fault.specs.CommonTable.{chain_table, log_id_table}
 use Rattle.sig_document_fault.specs.RootTable.{authority_table, instance_table, public_key_table, range_table}
 use Rattle.sig_document_fault.specs.RootTable.{root_table, time_table}
 use Rattle.sig_root.specs.RootRecord.{authority_of, instance_of, public_key_of, range_of, time_of, trusted_root_of}
-use Rattle.sig_table.proofs.TableOf.{elements_table, not_optional, optional_holds, optional_or_holds}
-use Rattle.sig_table.proofs.TableOf.{other_kind_table, record_is, step}
+use Rattle.sig_table.proofs.RecordTables.{elements_table, not_optional, optional_holds, optional_or_holds}
+use Rattle.sig_table.proofs.RecordTables.{other_kind_table, record_is, step}
 use Rattle.sig_table.specs.Kinds.{bytes_table}
 use Rattle.sig_table.specs.Table.{elements}
 use Rattle.sig_table.specs.TableOf.{IsTableOf}

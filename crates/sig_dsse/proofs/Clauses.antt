@@ -6,7 +6,7 @@ use Rattle.std.proofs.lemmas.Slice.Eq.{bytes_eq-Decides}
 use Rattle.std.specs.Bool.{Decides}
 use Rattle.std.specs.Option.{ok_or}
 use Rattle.std.specs.Prelude.{bytes_eq, codes, if◌then◌else◌, is_some}
-use Rattle.sig_base.proofs.ComesLaws.{comes_where, error_where}
+use Rattle.sig_base.proofs.ResultRuleLaws.{comes_where, error_where}
 use Rattle.sig_base.proofs.ResultSteps.{err_is, ok_is}
 use Rattle.sig_base.specs.Answers.{Answers, ComesWhere, UnlessMemory}
 use Rattle.sig_base.specs.ByText.{text_lookup}

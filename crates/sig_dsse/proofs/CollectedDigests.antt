@@ -2,7 +2,7 @@
 use Rattle.std.proofs.Common.{◌≡◌, ◌≢◌, ℕ, ◌<◌, ◌≤◌, List, [], ◌∷◌, ◌++◌, length, map, Result, Ok, Err, refl, sym, ap}
 use Rattle.std.proofs.Common.{subst, ◌∙◌, arith, append_assoc, append-nil}
 use Rattle.std.proofs.lemmas.Bool.{lt-ltb, le-ltb}
-use Rattle.sig_base.proofs.EachFrom.{more_made, nothing_before}
+use Rattle.sig_base.proofs.IndexedElements.{more_made, nothing_before}
 use Rattle.sig_base.specs.ResultSteps.{◌>>=◌}
 use Rattle.sig_base.specs.Answers.{Answers}
 use Rattle.sig_dsse.specs.declared.artifact_digest.ArtifactDigest.{ArtifactDigest}

@@ -3,5 +3,5 @@ pub mod Rows
 pub mod ShownRoots
 pub mod OneReading
 pub mod OneResult
-pub mod OneShown
+pub mod OneShownTree
 pub mod OneTree

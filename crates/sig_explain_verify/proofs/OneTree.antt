@@ -2,7 +2,7 @@
 use Rattle.std.proofs.Common.{◌≡◌, Ok, Err, inl, inr, subst}
 use Rattle.sig_checked_bundle.proofs.Certificates.{OneCertificate}
 use Rattle.sig_explain_verify.proofs.OneResult.{Alike, one_result}
-use Rattle.sig_explain_verify.proofs.OneShown.{one_policy, one_refused, one_verified}
+use Rattle.sig_explain_verify.proofs.OneShownTree.{one_policy, one_refused, one_verified}
 use Rattle.sig_explain_verify.specs.Inputs.{Inputs}
 use Rattle.sig_explain_verify.specs.OneTree.{IsResultTree, ResultsHaveOneTree}
 use Rattle.sig_json.specs.Data.{Data}

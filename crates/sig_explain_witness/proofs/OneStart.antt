@@ -7,7 +7,7 @@ use Rattle.sig_base.specs.ByText.{text_put}
 use Rattle.sig_explain_witness.specs.Start.{IsNoStart, StopsAt}
 use Rattle.sig_explain_witness.specs.declared.start.NoStart.{NoStart}
 use Rattle.sig_explain_witness.specs.declared.start.NoStart.TheVariants.{State, Origin}
-use Rattle.sig_witness.proofs.StateBack.{same-answers, same-key}
+use Rattle.sig_witness.proofs.StateReadings.{same-answers, same-key}
 use Rattle.sig_witness.specs.KeptLogs.{new_log}
 use Rattle.sig_witness.specs.StateCauses.{IsStateFault}
 use Rattle.sig_witness.specs.StateText.{IsStateOf}

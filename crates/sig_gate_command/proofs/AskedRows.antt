@@ -7,7 +7,7 @@ use Rattle.std.specs.List.{AllByRecursion}
 use Rattle.std.specs.Prelude.{Contains}
 use Rattle.sig_base.proofs.RuleLaws.{none_fails}
 use Rattle.sig_base.specs.declared.checker.AcceptedRow.{AcceptedRow}
-use Rattle.sig_gate_command.proofs.EachOnce.{all-different, once-same}
+use Rattle.sig_gate_command.proofs.DistinctRows.{all-different, once-same}
 use Rattle.sig_gate_command.specs.Questions.{AreRows, AreRowsOf, AreWithin, AsksFor, each_once, gate_inputs}
 use Rattle.sig_gate_command.specs.Suffice.{GateRowsAreEachOnce}
 use Rattle.sig_questions.proofs.RowLaws.{empty_has, has_both}
@@ -16,7 +16,7 @@ use Rattle.sig_questions.specs.Rows.{bytes_of_rows, row_bytes}
 use Rattle.sig_reply.proofs.RowsTexts.{rows_text-length}
 use Rattle.sig_reply.specs.RowsText.{rows_size, rows_text}
 use Rattle.sig_verify.specs.Links.{Inputs}
-use Rattle.sig_witness_command.proofs.EachOnce.{first-or-later, here, later, once-begins, once-parts}
+use Rattle.sig_witness_command.proofs.DistinctRows.{first-or-later, here, later, once-begins, once-parts}
 
 -- ---- of a bundle
 

@@ -1,9 +1,9 @@
 pub mod Requests
 pub mod Replies
-pub mod EachOnce
+pub mod DistinctRows
 pub mod AskedRows
 pub mod Listings
 pub mod Walks
 pub mod QuestionReplies
-pub mod LinksAgree
-pub mod GateRowsSuffice
+pub mod LinkAgreement
+pub mod SufficientGateRows

@@ -9,7 +9,7 @@ use Rattle.sig_base.proofs.ResultSteps.{ok_is}
 use Rattle.sig_base.specs.ByText.{text_lookup, text_put}
 use Rattle.sig_base.specs.declared.checker.AcceptedRow.{AcceptedRow}
 use Rattle.sig_gate_command.proofs.AskedRows.{bytes-joined, text-of-one}
-use Rattle.sig_gate_command.proofs.EachOnce.{once-again, once-new, once-same}
+use Rattle.sig_gate_command.proofs.DistinctRows.{once-again, once-new, once-same}
 use Rattle.sig_gate_command.specs.Questions.{each_once, most_asked}
 use Rattle.sig_gate_command.specs.RowList.{HasRoom, IsEmptyList, IsListSoFar, IsListed, IsNewRow, IsPut, IsSpent, row_name}
 use Rattle.sig_gate_command.specs.declared.row_list.RowList.{RowList}
@@ -26,7 +26,7 @@ use Rattle.sig_reply.proofs.RowsTexts.{list_of-more, list_of-none, list_of-past,
 use Rattle.sig_reply.specs.RowsText.{AddsRow, IsDocumentOf, IsListOf, IsReadBack, IsRowReadBack, row_tree, rows_text, rows_tree}
 use Rattle.sig_request.specs.Row.{row_of}
 use Rattle.sig_witness.proofs.Entries.{none-there}
-use Rattle.sig_witness_command.proofs.EachOnce.{here, once-begins, once-parts}
+use Rattle.sig_witness_command.proofs.DistinctRows.{here, once-begins, once-parts}
 use Rattle.sig_witness_command.proofs.Lookups.{put-cases, put-found}
 
 -- ---- names

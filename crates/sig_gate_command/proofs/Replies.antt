@@ -23,7 +23,7 @@ use Rattle.sig_reply.specs.Reply.{no_request}
 use Rattle.sig_reply.specs.declared.reply.Reply.{Reply}
 use Rattle.sig_request.specs.Limit.{most_bytes}
 use Rattle.sig_verify.specs.Verdict.{Checker}
-use Rattle.sig_witness_command.proofs.EachOnce.{here}
+use Rattle.sig_witness_command.proofs.DistinctRows.{here}
 
 -- ---- lists side by side
 

@@ -9,12 +9,12 @@ use Rattle.std.specs.Prelude.{OnOk, OnErr}
 use Rattle.serde_json.specs.Data.{Data, null, boolean, number, string, array, object, Items, no_items, item, Members}
 use Rattle.serde_json.specs.Data.{no_members, member, put}
 use Rattle.serde_json.specs.Find.{as_array, as_object}
-use Rattle.sig_json.proofs.ByOrdering.{holds_of_choice}
+use Rattle.sig_json.proofs.OrderingChoices.{holds_of_choice}
 use Rattle.sig_json.proofs.Trees.{view-Array, view-Object}
 use Rattle.sig_json.specs.View.{Words, view, items_view, members_view}
 use Rattle.serde_json.specs.Written.{has_float, items_have_float, members_have_float}
 use Rattle.sig_json.specs.declared.tree.Tree.{Tree, Array, Object}
-use Rattle.sig_json.proofs.ByKind.{as_object_is}
+use Rattle.sig_json.proofs.ValueKinds.{as_object_is}
 use Rattle.sig_json.specs.Builders.{with_member, with_last, items_with_last}
 use Rattle.sig_json.specs.Gathered.{Entry}
 

@@ -7,7 +7,7 @@ use Rattle.sig_base.specs.OptionSteps.{◌>>=◌}
 use Rattle.serde_json.specs.Data.{Data, null, boolean, number, string, array, object, Items}
 use Rattle.serde_json.specs.Find.{as_array}
 use Rattle.serde_json.specs.Written.{has_float}
-use Rattle.sig_json.proofs.ByKind.{as_array_is}
+use Rattle.sig_json.proofs.ValueKinds.{as_array_is}
 use Rattle.sig_json.proofs.Lists.{items_from, none_left}
 use Rattle.sig_json.proofs.SameTrees.{items_floatless_at}
 use Rattle.sig_json.specs.List.{items_list}

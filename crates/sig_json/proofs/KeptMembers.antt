@@ -15,7 +15,7 @@ use Rattle.serde_json.specs.Written.{members_have_float}
 use Rattle.sig_json.proofs.BuilderSteps.{put_floatless}
 use Rattle.sig_json.proofs.TokenConversions.{member_read, member_refused, key_refused, members_over}
 use Rattle.sig_json.proofs.NamedTrees.{ascend-put, keys-put, values-put}
-use Rattle.sig_json.proofs.Only.{where_put_yes, where_put_no}
+use Rattle.sig_json.proofs.NamedMembers.{where_put_yes, where_put_no}
 use Rattle.sig_json.proofs.OrderedMembers.{gathered_more}
 use Rattle.sig_json.proofs.SkippedValues.{object_is}
 use Rattle.sig_json.proofs.Tokens.{Means, object_meant, object_refused, text_read, text_and_more, text_refused}

@@ -12,8 +12,8 @@ use Rattle.serde_json.specs.Find.{as_object}
 use Rattle.serde_json.specs.Read.{read}
 use Rattle.serde_json.specs.Written.{has_float, members_have_float}
 use Rattle.serde_json.specs.declared.number.Number.{Number}
-use Rattle.sig_json.proofs.Only.{floatless-where, floatless-both, floatless-only, floatless-without, named-only}
-use Rattle.sig_json.proofs.Only.{named-without, only-same, without-same}
+use Rattle.sig_json.proofs.NamedMembers.{floatless-where, floatless-both, floatless-only, floatless-without, named-only}
+use Rattle.sig_json.proofs.NamedMembers.{named-without, only-same, without-same}
 use Rattle.sig_json.proofs.DocumentSteps.{document_of-not_utf8, document_of-unread, document_of-float, document_of-read}
 use Rattle.sig_json.proofs.Tokens.{object_is_named}
 use Rattle.sig_json.proofs.Trees.{view-Null, view-Bool, view-Number, view-Text, view-Array, view-Object}

@@ -1,7 +1,7 @@
 pub mod Trees
 pub mod OpenValues
-pub mod NamesLeft
-pub mod OrMember
+pub mod RemainingNames
+pub mod ReaderResults
 pub mod OrderedMembers
 pub mod MemberScans
 pub mod AddedMembers
@@ -9,10 +9,10 @@ pub mod Copies
 pub mod MovedParts
 pub mod TokenConversions
 pub mod Tokens
-pub mod ByKind
-pub mod ByOrdering
+pub mod ValueKinds
+pub mod OrderingChoices
 pub mod DocumentSteps
-pub mod Floatless
+pub mod FloatlessTrees
 pub mod Lists
 pub mod Numerals
 pub mod Elements
@@ -26,7 +26,7 @@ pub mod SameTrees
 pub mod SameDocuments
 pub mod TextMaps
 pub mod NamedTrees
-pub mod Only
+pub mod NamedMembers
 pub mod SkippedValues
 pub mod SortedMembers
 pub mod ShortIntegers

@@ -20,8 +20,8 @@ use Rattle.serde_json.specs.Data.{Members, no_members, member, put}
 use Rattle.serde_json.specs.Find.{get, at, get_member, get_item, as_object}
 use Rattle.sig_json.specs.View.{view, members_view}
 use Rattle.sig_json.specs.declared.tree.Tree.{Object}
-use Rattle.sig_json.proofs.ByKind.{as_object_is}
-use Rattle.sig_json.proofs.ByOrdering.{choice_of_each, holds_of_choice}
+use Rattle.sig_json.proofs.ValueKinds.{as_object_is}
+use Rattle.sig_json.proofs.OrderingChoices.{choice_of_each, holds_of_choice}
 use Rattle.sig_json.specs.Builders.{with_member, with_last, items_with_last}
 use Rattle.sig_json.specs.Members.{members_list}
 use Rattle.sig_json.specs.NamedTree.{HasNames, NamesAscend, IsNamedTree, AreNamed, HasNamedValues}

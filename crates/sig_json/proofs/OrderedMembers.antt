@@ -18,7 +18,7 @@ use Rattle.std.specs.declared.cmp.Ordering.{Ordering}
 use Rattle.std.specs.declared.cmp.Ordering.TheVariants.{Less, Equal, Greater}
 use Rattle.serde_json.specs.Data.{Data, Members, member, put}
 use Rattle.serde_json.specs.Find.{get, get_member, get_item, at}
-use Rattle.sig_json.proofs.ByOrdering.{choice_of_each}
+use Rattle.sig_json.proofs.OrderingChoices.{choice_of_each}
 use Rattle.sig_json.proofs.NamedTrees.{keys-put}
 use Rattle.sig_base.specs.ByText.{KeysAscend}
 use Rattle.sig_json.specs.Gathered.{Entry, put_each, gathered, InOrder, IsPlaceOf}

@@ -21,10 +21,10 @@ use Rattle.serde_json.specs.Find.{get_member}
 use Rattle.serde_json.specs.Read.{max_depth}
 use Rattle.serde_json.specs.Written.{has_float, members_have_float}
 use Rattle.sig_base.specs.ByText.{KeysAscend}
-use Rattle.sig_json.proofs.Floatless.{get_member_floatless}
+use Rattle.sig_json.proofs.FloatlessTrees.{get_member_floatless}
 use Rattle.sig_json.proofs.KeptMembers.{KeptAt, at_start, at_same, at_end}
 use Rattle.sig_json.proofs.NamedTrees.{keys-put}
-use Rattle.sig_json.proofs.Only.{ascend_where, put_first, where_put_yes, where_put_no}
+use Rattle.sig_json.proofs.NamedMembers.{ascend_where, put_first, where_put_yes, where_put_no}
 use Rattle.sig_json.proofs.OrderedMembers.{gathered_more}
 use Rattle.sig_json.proofs.SkippedValues.{object_is}
 use Rattle.sig_json.proofs.Tokens.{Means, text_read}

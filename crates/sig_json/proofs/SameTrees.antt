@@ -10,7 +10,7 @@ use Rattle.serde_json.specs.Find.{as_u64, as_i64, is_float}
 use Rattle.sig_json.specs.Gathered.{Entry}
 use Rattle.sig_json.specs.View.{view, items_view, members_view}
 use Rattle.sig_json.specs.declared.tree.Tree.{Tree}
-use Rattle.sig_json.proofs.ByKind.{as_null_is, as_bool_is, as_number_is, as_str_is, as_array_is, as_object_is}
+use Rattle.sig_json.proofs.ValueKinds.{as_null_is, as_bool_is, as_number_is, as_str_is, as_array_is, as_object_is}
 use Rattle.sig_json.proofs.Lists.{items_from, length-items_list, members_from}
 use Rattle.sig_json.specs.List.{items_list}
 

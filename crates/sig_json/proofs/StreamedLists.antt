@@ -20,7 +20,7 @@ use Rattle.serde_json.specs.Written.{has_float, members_have_float}
 use Rattle.sig_base.specs.OptionSteps.{◌>>=◌}
 use Rattle.sig_json.proofs.KeptMembers.{KeptAt, at_start, at_more, at_same, at_end, at_part, at_named}
 use Rattle.sig_json.proofs.KeptReading.{float-where}
-use Rattle.sig_json.proofs.Only.{floatless-both}
+use Rattle.sig_json.proofs.NamedMembers.{floatless-both}
 use Rattle.sig_json.proofs.DocumentSteps.{document_of-float, document_of-read}
 use Rattle.sig_json.proofs.SkippedValues.{ListAt, list_at_start, list_at_step, list_at_end, array_is, object_is}
 use Rattle.sig_json.proofs.Tokens.{Means, text_read}

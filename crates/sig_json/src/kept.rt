@@ -217,7 +217,7 @@ pub(crate) fn take_value<'r>(
 }
 
 /// Whether the name is one of these. A loop of its own: `contains` prepares for many names.
-#[tactic(auto, using(crate::proofs::NamesLeft::names))]
+#[tactic(auto, using(crate::proofs::RemainingNames::names))]
 pub(crate) fn is_among(names: &[&str], name: &str) -> bool
     ensures { result ≡ is_among (names_of names.now) name.now }
 {

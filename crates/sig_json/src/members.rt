@@ -26,7 +26,7 @@ impl<'a, 't> Iterator for Members<'a, 't> {
 
     ghost remaining = { item_count members_left };
 
-    #[tactic(auto, using(crate::proofs::Floatless::floatless, crate::proofs::NamedTrees::named))]
+    #[tactic(auto, using(crate::proofs::FloatlessTrees::floatless, crate::proofs::NamedTrees::named))]
     fn next(&mut self) -> Option<(&'a str, Json<'a, 't>)> {
         let (first, rest) = self.left.split_first()?;
         *self = Members { left: rest };
@@ -34,7 +34,7 @@ impl<'a, 't> Iterator for Members<'a, 't> {
     }
 }
 
-#[tactic(auto, using(crate::proofs::Floatless::floatless, crate::proofs::NamedTrees::named))]
+#[tactic(auto, using(crate::proofs::FloatlessTrees::floatless, crate::proofs::NamedTrees::named))]
 impl<'a, 't> Json<'a, 't> {
     ghost use Rattle.std.specs.Prelude.{IfSome, option_map};
     ghost use Rattle.sig_base.specs.ByText.{KeysAscend};

@@ -22,7 +22,7 @@ impl<'t> BorrowedDocument<'t> {
 
     /// The member of this name of an object; the rest is dropped. `None` if the value is not an object or has no such
     /// member. It takes no memory.
-    #[tactic(auto, using(crate::proofs::Floatless::floatless, crate::proofs::NamedTrees::named))]
+    #[tactic(auto, using(crate::proofs::FloatlessTrees::floatless, crate::proofs::NamedTrees::named))]
     pub fn into_member(self, name: &str) -> Option<BorrowedDocument<'t>>
         ensures { option_map borrowed_tree result ≡ member_in name.now (borrowed_tree self.entry) }
     {

@@ -16,7 +16,7 @@ pub struct Json<'a, 't> {
     ghost named: { IsNamedTree (view value.now) } by { IsNamedTree-prop (view value.now) },
 }
 
-#[tactic(auto, using(crate::proofs::Floatless::floatless, crate::proofs::NamedTrees::named, crate::proofs::Lists::lengths))]
+#[tactic(auto, using(crate::proofs::FloatlessTrees::floatless, crate::proofs::NamedTrees::named, crate::proofs::Lists::lengths))]
 impl<'a, 't> Json<'a, 't> {
     ghost use Rattle.std.specs.Prelude.{◌↔◌, IsSome, is_some, option_map, option_and_then, length};
     ghost use Rattle.serde_json.specs.Find.{get as member_in, at, as_null, as_bool, as_str, as_number, as_integer};

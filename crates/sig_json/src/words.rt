@@ -28,7 +28,7 @@ pub(crate) fn borrow<'t>(text: &'t str) -> Words<'t>
 }
 
 /// Whether two names are the same. Most differ in their length or their first byte, which is seen without a call.
-#[tactic(auto, using(crate::proofs::NamesLeft::two_names))]
+#[tactic(auto, using(crate::proofs::RemainingNames::two_names))]
 #[inline(always)]
 pub(crate) fn is_same_name(name: &str, other: &str) -> bool
     ensures { result ≡ bytes_eq name.now other.now }

@@ -4,4 +4,4 @@ pub mod Units
 pub mod MemberOrder
 pub mod KeptOrder
 pub mod MemberTexts
-pub mod Large
+pub mod LargeIntegers

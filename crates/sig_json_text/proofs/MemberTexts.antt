@@ -25,7 +25,7 @@ use Rattle.sig_json.specs.Members.{members_list}
 use Rattle.sig_json_text.specs.Writes.{comma_before, Pair, ByUnits, by_units, member_text, pair_of, texts_in_turn}
 use Rattle.sig_json_text.specs.declared.named_member.Member.{Member}
 use Rattle.sig_base.proofs.AscendingKeys.{all_keys}
-use Rattle.sig_json.proofs.ByOrdering.{choice_of_each}
+use Rattle.sig_json.proofs.OrderingChoices.{choice_of_each}
 use Rattle.sig_json_text.proofs.MemberOrder.{same_units}
 use Rattle.sig_json.proofs.Elements.{items_named_at}
 use Rattle.sig_json.proofs.Lists.{none_left}

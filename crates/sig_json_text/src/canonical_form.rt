@@ -29,7 +29,7 @@ const GREATEST_INTEGER: u128 = 9_007_199_254_740_991;
 /// The canonical text of a value (RFC 8785): the members of each object in the order of the UTF-16 code units of their
 /// names, no white space, the shortest escapes. Fails with `IntegerTooLarge` if and only if the value holds an integer
 /// beyond plus or minus 2^53 - 1, at any depth (`laws::large_integers`).
-#[tactic(auto, using(crate::proofs::Large::large_integers))]
+#[tactic(auto, using(crate::proofs::LargeIntegers::large_integers))]
 pub fn canonical(alloc: Global, json: Json<'_, '_>) -> Result<Text, CanonicalError>
     ensures answer { Answers CanonicalError.OutOfMemory (λ text. text) result (canonical_of (tree json.entry)) }
     ensures large { IfErr result (λ e. e ≡ CanonicalError.IntegerTooLarge → IsTrue (has_large (tree json.entry))) }

@@ -5,7 +5,7 @@ use Rattle.std.specs.Str.{bytes_eq}
 use Rattle.std.specs.Prelude.{◌==◌}
 use Rattle.std.proofs.lemmas.Bool.{eqb-true}
 use Rattle.std.proofs.lemmas.Slice.Eq.{bytes_eq-Decides}
-use Rattle.sig_base.proofs.ComesLaws.{error_where}
+use Rattle.sig_base.proofs.ResultRuleLaws.{error_where}
 use Rattle.sig_base.proofs.OptionSteps.{some_is}
 use Rattle.sig_base.specs.Answers.{Answers, ComesWhere}
 use Rattle.sig_base.specs.declared.error.SigstoreError.{SigstoreError}

@@ -13,7 +13,7 @@ use Rattle.base64.specs.GeneralPurpose.{engine_symbols, decode_of}
 use Rattle.base64.specs.Rfc4648.{encode_symbols, padding_len}
 use Rattle.sig_base.proofs.Base64Texts.{all_at}
 use Rattle.sig_base.proofs.ByteLists.{byte_at}
-use Rattle.sig_base.proofs.ComesLaws.{comes_where}
+use Rattle.sig_base.proofs.ResultRuleLaws.{comes_where}
 use Rattle.sig_base.proofs.OptionSteps.{some_is}
 use Rattle.sig_base.proofs.ResultSteps.{ok_from}
 use Rattle.sig_base.specs.Answers.{Answers, ComesWhere}

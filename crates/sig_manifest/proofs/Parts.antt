@@ -1,7 +1,7 @@
 -- A text is read by its members and its rows.
 use Rattle.std.proofs.Common.{◌≡◌, ℕ, List, [], ◌∷◌, codes, refl}
 use Rattle.sig_base.specs.declared.checker.AcceptedRow.{AcceptedRow}
-use Rattle.sig_json.proofs.Only.{member_of-only}
+use Rattle.sig_json.proofs.NamedMembers.{member_of-only}
 use Rattle.sig_json.specs.Data.{Data}
 use Rattle.sig_json.specs.Member.{optional_or, required}
 use Rattle.sig_json.specs.Only.{only}

@@ -1,4 +1,4 @@
-mod Ascends
+mod AscendingNames
 mod ManifestFaults
 mod ManifestTables
 mod RuleLevels

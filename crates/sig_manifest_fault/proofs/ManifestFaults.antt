@@ -19,7 +19,7 @@ use Rattle.sig_manifest.specs.Read.{Parts, manifest_in, manifest_of, unless_unkn
 use Rattle.sig_manifest.specs.Unknown.{IsNamedIn, unknown_by, unknown_from, unknown_in}
 use Rattle.sig_manifest.specs.declared.error.ManifestError.{ManifestError}
 use Rattle.sig_manifest.specs.declared.error.ManifestError.TheVariants as manifest
-use Rattle.sig_manifest_fault.proofs.Ascends.{document-ascends}
+use Rattle.sig_manifest_fault.proofs.AscendingNames.{document-ascends}
 use Rattle.sig_manifest_fault.proofs.ManifestTables.{manifest_is}
 use Rattle.sig_manifest_fault.specs.ManifestFault.{IsManifest, manifest_fault_in, unknown_fault}
 use Rattle.sig_manifest_fault.specs.ManifestTable.{manifest_table}

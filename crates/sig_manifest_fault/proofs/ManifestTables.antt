@@ -13,7 +13,7 @@ use Rattle.sig_manifest.specs.Manifest.{Gate, is_within, kept_within, manifest_m
 use Rattle.sig_manifest.specs.Policies.{ByName, policies_of}
 use Rattle.sig_manifest.specs.Read.{Parts}
 use Rattle.sig_manifest.specs.RuleTable.{of_at_most, rule_of, rule_within}
-use Rattle.sig_manifest_fault.proofs.Ascends.{Ascends, ValuesAscend, member-ascends}
+use Rattle.sig_manifest_fault.proofs.AscendingNames.{Ascends, ValuesAscend, member-ascends}
 use Rattle.sig_manifest_fault.proofs.RuleTables.{nested_is, two_rows}
 use Rattle.sig_manifest_fault.proofs.ValueTables.{IsAscendingTableOf, policies_are, roots_are}
 use Rattle.sig_manifest_fault.specs.ManifestTable.{artifact_table, artifacts_kind, manifest_table, name_table, within}
@@ -26,8 +26,8 @@ use Rattle.sig_request_fault.proofs.RequestTables.{all_then, holds, rows_first, 
 use Rattle.sig_request_fault.proofs.RowTables.{i64_is, text_is}
 use Rattle.sig_request_fault.specs.PolicyTable.{policy_table}
 use Rattle.sig_request_fault.specs.RequestTable.{digest_table}
-use Rattle.sig_table.proofs.TableOf.{elements_table, not_required, optional_or_holds, other_kind_table, record_is}
-use Rattle.sig_table.proofs.TableOf.{required_holds, step}
+use Rattle.sig_table.proofs.RecordTables.{elements_table, not_required, optional_or_holds, other_kind_table, record_is}
+use Rattle.sig_table.proofs.RecordTables.{required_holds, step}
 use Rattle.sig_table.specs.Kinds.{i64_table, text_table}
 use Rattle.sig_table.specs.Table.{Table, elements, fits, member_in, passes, required_row, row_holds}
 use Rattle.sig_table.specs.TableOf.{IsTableOf}

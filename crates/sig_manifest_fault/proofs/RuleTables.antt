@@ -16,7 +16,7 @@ use Rattle.sig_manifest_fault.specs.RuleTable.{form_names, form_table, least_kin
 use Rattle.sig_manifest_fault.specs.RuleTable.{one_member, some_rules, table_of}
 use Rattle.sig_request_fault.proofs.RowTables.{text_is, u64_is}
 use Rattle.sig_table.proofs.SizedLists.{as_many, sized_table}
-use Rattle.sig_table.proofs.TableOf.{last_row, not_required, record_is, required_holds, some_of-map}
+use Rattle.sig_table.proofs.RecordTables.{last_row, not_required, record_is, required_holds, some_of-map}
 use Rattle.sig_table.specs.Chosen.{nothing_table}
 use Rattle.sig_table.specs.Kinds.{text_table, u64_table, unless}
 use Rattle.sig_table.specs.Table.{Table, fits, member_in, oneof_row, passes, required_row, row_holds}

@@ -10,7 +10,7 @@ use Rattle.sig_json.specs.Kinds.{text_map_of, text_of, texts_by_name}
 use Rattle.sig_json.specs.Member.{not_null}
 use Rattle.sig_json.specs.Members.{members_list, members_of}
 use Rattle.sig_manifest.specs.Policies.{ByName, policies_beside, policies_of}
-use Rattle.sig_manifest_fault.proofs.Ascends.{AreFoundIn, Ascends, each-found}
+use Rattle.sig_manifest_fault.proofs.AscendingNames.{AreFoundIn, Ascends, each-found}
 use Rattle.sig_manifest_fault.proofs.RuleTables.{both}
 use Rattle.sig_manifest_fault.specs.Values.{value_rows, values_table}
 use Rattle.sig_policy.specs.declared.request.RequestPolicy.{RequestPolicy}
@@ -18,7 +18,7 @@ use Rattle.sig_request.specs.Policy.{request_policy_of}
 use Rattle.sig_request_fault.proofs.PolicyTables.{policy_is}
 use Rattle.sig_request_fault.proofs.RowTables.{text_is}
 use Rattle.sig_request_fault.specs.PolicyTable.{all_table, policy_table}
-use Rattle.sig_table.proofs.TableOf.{step}
+use Rattle.sig_table.proofs.RecordTables.{step}
 use Rattle.sig_table.specs.Kinds.{text_table}
 use Rattle.sig_table.specs.Table.{Table, fits, passes, rows_hold, rows_of}
 use Rattle.sig_table.specs.TableOf.{IsTableOf}

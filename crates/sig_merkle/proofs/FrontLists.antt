@@ -16,7 +16,7 @@ use Rattle.sig_merkle.specs.Root.{node_of, root}
 use Rattle.sig_merkle.specs.Split.{IsSplit}
 use Rattle.sig_merkle.proofs.HalfSteps.{halves-length}
 use Rattle.sig_merkle.proofs.Levels.{exponent_le}
-use Rattle.sig_merkle.proofs.SubproofAccepted.{root-older, take-take}
+use Rattle.sig_merkle.proofs.AcceptedSubproofs.{root-older, take-take}
 
 -- ---- how many counts are at most a number
 

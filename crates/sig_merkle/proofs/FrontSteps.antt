@@ -7,7 +7,7 @@ use Rattle.sig_merkle.specs.Root.{node_of, root}
 use Rattle.sig_merkle.proofs.ConsistencyLens.{roots_len-left, roots_len-right}
 use Rattle.sig_merkle.proofs.HalfSteps.{halves-length}
 use Rattle.sig_merkle.proofs.RootLaws.{root-none}
-use Rattle.sig_merkle.proofs.SubproofAccepted.{root-older}
+use Rattle.sig_merkle.proofs.AcceptedSubproofs.{root-older}
 
 -- the front has no entry
 pub front-none : (count : ℕ) (entries : List (List ℕ)) (node : List ℕ) → count ≡ 0 → node ≡ sha256 []

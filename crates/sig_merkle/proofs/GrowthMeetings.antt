@@ -14,7 +14,7 @@ use Rattle.sig_merkle.proofs.HalfSteps.{root-halves, halves-length}
 use Rattle.sig_merkle.proofs.RootLaws.{root-none}
 use Rattle.sig_merkle.proofs.ConsistencyLens.{roots_len-left, roots_len-right, roots_of-some}
 use Rattle.sig_merkle.proofs.ConsistencySteps.{fold_whole, fold_known, fold_last, fold_left, fold_right}
-use Rattle.sig_merkle.proofs.SubproofAccepted.{take-take, root-older}
+use Rattle.sig_merkle.proofs.AcceptedSubproofs.{take-take, root-older}
 
 -- where the old tree is the whole, its root is that of all entries
 whole_root : (old_size : ℕ) (entries : List (List ℕ)) → length entries ≤ old_size

@@ -19,7 +19,7 @@ use Rattle.sig_merkle.proofs.WalkFolds.{border_fold-last}
 use Rattle.sig_merkle.proofs.Walks.{split_at, narrow}
 use Rattle.sig_merkle.proofs.GrowthBits.{shift-within, shift-above, mask-above}
 use Rattle.sig_merkle.proofs.GrowthStarts.{IsStart}
-use Rattle.sig_merkle.proofs.GrowthFull.{Climbs, last-left, last-right, climbs-ends, climbs-left, climbs-full}
+use Rattle.sig_merkle.proofs.FullTreeGrowths.{Climbs, last-left, last-right, climbs-ends, climbs-left, climbs-full}
 
 -- any tree: its left half is full, and in its right half the last hash is one of the border
 

@@ -11,7 +11,7 @@ pub mod ConsistencySteps
 pub mod ConsistencyAnswers
 pub mod SubproofLaws
 pub mod SubproofSteps
-pub mod SubproofAccepted
+pub mod AcceptedSubproofs
 pub mod WalkBits
 pub mod BitFolds
 pub mod WalkFolds
@@ -28,7 +28,7 @@ pub mod OlderTrees
 pub mod GrowthBits
 pub mod GrowthFolds
 pub mod GrowthStarts
-pub mod GrowthFull
+pub mod FullTreeGrowths
 pub mod Growths
 pub mod GrowthSteps
 pub mod FrontLists

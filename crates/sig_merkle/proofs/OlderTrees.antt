@@ -7,7 +7,7 @@ use Rattle.sig_merkle.specs.Root.{root}
 use Rattle.sig_merkle.proofs.Exhibits.{front-or-broken}
 use Rattle.sig_merkle.proofs.GrowthMeetings.{consistent_sizes}
 use Rattle.sig_merkle.proofs.RootLaws.{root-none}
-use Rattle.sig_merkle.proofs.SubproofAccepted.{take-take}
+use Rattle.sig_merkle.proofs.AcceptedSubproofs.{take-take}
 
 abbrev HaveFront : ℕ → ℕ → List ℕ → List ℕ → Type 0
 HaveFront older newer older_root newer_root =

@@ -3,7 +3,7 @@ use Rattle.std.proofs.Common.{◌≡◌, ◌≢◌, ◌==◌, ℕ, true, false, 
 use Rattle.std.proofs.lemmas.Bool.{eqb-true}
 use Rattle.std.proofs.lemmas.List.{map-append, nil_from_length}
 use Rattle.sig_base.proofs.OptionSteps.{bind_is, some_is}
-use Rattle.sig_der.proofs.Many.{Shrinks, goes_on, with_front}
+use Rattle.sig_der.proofs.ElementLists.{Shrinks, goes_on, with_front}
 use Rattle.sig_der.proofs.Takings.{take_tag_shrinks}
 use Rattle.sig_der.specs.Tag.{SET}
 use Rattle.sig_der.specs.FrontReaders.{many_at, take_tag}

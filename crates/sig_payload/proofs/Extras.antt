@@ -1,7 +1,7 @@
 -- Annotations: whether there are any, and how they are moved out of a payload.
 use Rattle.std.proofs.Common.{◌≡◌, ℕ, ℤ, true, false, List, [], ◌∷◌, codes, Option, Some, None, Ok, IsSome, is_some}
 use Rattle.std.proofs.Common.{refl, subst}
-use Rattle.sig_json.proofs.OrMember.{is_read}
+use Rattle.sig_json.proofs.ReaderResults.{is_read}
 use Rattle.sig_json.specs.Data.{Data}
 use Rattle.sig_json.specs.Find.{as_null, as_object, get}
 use Rattle.sig_json.specs.Kinds.{text_of}

@@ -2,9 +2,9 @@ pub mod Utf8Laws
 pub mod IdentityLaws
 pub mod RequestLaws
 pub mod SetLaws
-pub mod SaidLaws
+pub mod RequestedPolicyLaws
 pub mod RefusalLaws
-pub mod ComesLaws
+pub mod VerdictLaws
 pub mod SingleLaws
 pub mod IdentityRefusals
 pub mod NamedLaws

@@ -16,7 +16,7 @@ use Rattle.sig_policy.specs.Texts.{utf8_text}
 use Rattle.sig_policy.specs.Verdict.{IsPolicyResult}
 use Rattle.sig_policy.specs.declared.failure.PolicyError.TheVariants.{ExtensionNotFound, ExtensionCheckFailed}
 use Rattle.sig_policy.specs.declared.failure.PolicyError.TheVariants.{OutOfMemory}
-use Rattle.sig_policy.proofs.ComesLaws.{Answer, comes_ok, comes_err}
+use Rattle.sig_policy.proofs.VerdictLaws.{Answer, comes_ok, comes_err}
 use Rattle.sig_policy.proofs.Utf8Laws.{utf8_some}
 
 -- ---- the text

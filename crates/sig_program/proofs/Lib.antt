@@ -1,10 +1,10 @@
 pub mod ChainOutcomes
 pub mod ConsistencyReplies
-pub mod ConsistencyRowsSuffice
+pub mod SufficientConsistencyRows
 pub mod ConsistencyVerdicts
 pub mod FrontLines
 pub mod Fronts
-pub mod GivingBack
+pub mod GivenBackLists
 pub mod HeadQuestionReplies
 pub mod HeadSignatures
 pub mod HeadVerdicts
@@ -25,10 +25,10 @@ pub mod Replies
 pub mod RowSizes
 pub mod Runs
 pub mod SecondLines
-pub mod LogRowsSuffice
+pub mod SufficientLogRows
 pub mod Verdicts
 pub mod VerifyChains
 pub mod VerifyQuestionReplies
 pub mod VerifyReplies
-pub mod VerifyRowsSuffice
+pub mod SufficientVerifyRows
 pub mod SinkWrites

@@ -22,8 +22,8 @@ use Rattle.sig_verify.specs.EntryLinks.{IsOfBytes}
 use Rattle.sig_verify.specs.LinkLaws.{IsReadCertificate}
 use Rattle.sig_verify.specs.Links.{Inputs}
 use Rattle.sig_verify.specs.declared.link.Link.TheVariants.{RootJson, BundleJson}
-use Rattle.sig_questions.proofs.Few.{questions_few}
-use Rattle.sig_questions.proofs.Suffices.{rows_suffice}
+use Rattle.sig_questions.proofs.QuestionCounts.{questions_few}
+use Rattle.sig_questions.proofs.SufficientLists.{rows_suffice}
 use Rattle.sig_questions.specs.Asked.{IsAskedBy}
 use Rattle.sig_questions.specs.Few.{AreFewQuestions}
 use Rattle.sig_questions.specs.Front.{IsFrontTold, unread}

@@ -5,7 +5,7 @@ use Rattle.sig_certificate.specs.Certificate.{Cert}
 use Rattle.sig_verify.specs.CertificateLinks.{OfIssuer}
 use Rattle.sig_x509.proofs.Elements.{at_contained}
 use Rattle.sig_x509.proofs.PathAnswers.{Tells, tells}
-use Rattle.sig_x509.proofs.PathAsked.{also_signed_up, every_genuine}
+use Rattle.sig_x509.proofs.PathSignatures.{also_signed_up, every_genuine}
 use Rattle.sig_x509.specs.Issuance.{Accepts}
 use Rattle.sig_x509.specs.Issued.{IsSignedBy}
 use Rattle.sig_x509.specs.Path.{AreSignedUp, HasPath, IsFirstInPath, IsNext, IsPath, every_signature}

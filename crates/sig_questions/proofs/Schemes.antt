@@ -7,7 +7,7 @@ use Rattle.sig_dsse.specs.declared.artifact_digest.ArtifactDigest.{ArtifactDiges
 use Rattle.sig_verify.specs.CertificateLinks.{Trust}
 use Rattle.sig_verify.specs.EntryLinks.{LogKeys}
 use Rattle.sig_verify.proofs.Parts.{log_keys_of, of_parts, trust_with}
-use Rattle.sig_questions.proofs.EachRow.{AllHave, both, certificates_had, others_had, points_had}
+use Rattle.sig_questions.proofs.QuestionKinds.{AllHave, both, certificates_had, others_had, points_had}
 use Rattle.sig_questions.specs.Lists.{certificate_questions, content_questions, entry_questions, questions_of}
 use Rattle.sig_questions.specs.Lists.{questions_behind, sct_questions}
 use Rattle.sig_questions.specs.Questions.{QuestionsHaveSchemes}

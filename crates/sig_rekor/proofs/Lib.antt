@@ -8,7 +8,7 @@ pub mod SignatureLaws
 pub mod CheckpointLaws
 pub mod VerifyLaws
 pub mod DedupedLists
-pub mod Graphic
+pub mod GraphicTexts
 pub mod WrittenCuts
 pub mod ReadBackLaws
 pub mod Equality

@@ -26,8 +26,8 @@ use Rattle.sig_rekor.proofs.NoteLaws.{origin-only, hash-only}
 use Rattle.sig_rekor.proofs.SignatureLaws.{signature-only}
 use Rattle.sig_rekor.proofs.Steps.{head_is}
 use Rattle.sig_rekor.proofs.Signatures.{signatures_by-blank, signatures_by-written, signatures_by-none}
-use Rattle.sig_rekor.proofs.Graphic.{IsFreeOf, graphic-free, decimal-graphic, tree_size_of-decimal, base64-graphic}
-use Rattle.sig_rekor.proofs.Graphic.{base64-again, trim_end-graphic}
+use Rattle.sig_rekor.proofs.GraphicTexts.{IsFreeOf, graphic-free, decimal-graphic, tree_size_of-decimal, base64-graphic}
+use Rattle.sig_rekor.proofs.GraphicTexts.{base64-again, trim_end-graphic}
 use Rattle.sig_rekor.proofs.WrittenCuts.{free-lacks, free-append, onto_cut, cut_past, cut_none, cut_after, cut_empty}
 use Rattle.sig_rekor.proofs.WrittenCuts.{cut_apart, cut_last, written, IsLine, written_parts, written_cut}
 

@@ -6,7 +6,7 @@ use Rattle.std.specs.List.{AllByRecursion}
 use Rattle.sig_rekor.specs.TextCuts.{Lacks, cut_at, cut_here, parts_between}
 use Rattle.sig_rekor.specs.NoteText.{newline}
 use Rattle.sig_rekor.specs.CheckpointText.{empty_line}
-use Rattle.sig_rekor.proofs.Graphic.{IsFreeOf}
+use Rattle.sig_rekor.proofs.GraphicTexts.{IsFreeOf}
 use Rattle.sig_rekor.proofs.CutLaws.{parts_between-whole, parts_between-cut}
 
 pub free-lacks : (s : ℕ) (t : List ℕ) → Lacks (s ∷ []) t → IsFreeOf s t

@@ -38,7 +38,7 @@ pub fn decode_hash(text: &[u8], other_length: UnexpectedKind) -> Result<[u8; 32]
 ///
 /// Errors, of the first text that is not a hash, as of [`decode_hash`]: `HexDecodeError`, or `UnexpectedError` of
 /// `HashLength` with the index of the text; `laws::hash_texts` says when each comes.
-#[tactic(auto, using(sig_base::proofs::EachFrom::each_left))]
+#[tactic(auto, using(sig_base::proofs::IndexedElements::each_left))]
 pub fn decode_hashes(alloc: Global, texts: &Entries) -> Result<Hashes>
     ensures { Answers Memory (λ hashes. hashes) result (hashes_from 0 texts.now) }
 {

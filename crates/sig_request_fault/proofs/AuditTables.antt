@@ -24,8 +24,8 @@ use Rattle.sig_request_fault.specs.AuditTable.{audit_table, head_count, head_tab
 use Rattle.sig_request_fault.specs.AuditTable.{watched_table}
 use Rattle.sig_request_fault.specs.RowTable.{scheme_table}
 use Rattle.sig_table.proofs.SizedLists.{as_many, each_length, sized_of, sized_table}
-use Rattle.sig_table.proofs.TableOf.{beyond_range_table, elements_table, not_required, optional_or_holds, record_is}
-use Rattle.sig_table.proofs.TableOf.{required_holds, step}
+use Rattle.sig_table.proofs.RecordTables.{beyond_range_table, elements_table, not_required, optional_or_holds, record_is}
+use Rattle.sig_table.proofs.RecordTables.{required_holds, step}
 use Rattle.sig_table.specs.Chosen.{is_between}
 use Rattle.sig_table.specs.Kinds.{below, below_table, bytes_table, hash_table, text_table, u64_table}
 use Rattle.sig_table.specs.Table.{elements, fits, member_in, optional_row, required_row, row_holds}

@@ -21,8 +21,8 @@ use Rattle.sig_request_fault.proofs.RowTables.{and_false, text_is}
 use Rattle.sig_request_fault.specs.PolicyTable.{all_table, any_table, asks_workflow, issuer_table, policy_table}
 use Rattle.sig_request_fault.specs.PolicyTable.{rule_table, rules_table, workflow_names, workflow_table}
 use Rattle.sig_table.proofs.SizedLists.{as_many, sized_table}
-use Rattle.sig_table.proofs.TableOf.{last_row, not_optional, not_required, optional_holds, optional_there, record_is}
-use Rattle.sig_table.proofs.TableOf.{some_of-map, step}
+use Rattle.sig_table.proofs.RecordTables.{last_row, not_optional, not_required, optional_holds, optional_there, record_is}
+use Rattle.sig_table.proofs.RecordTables.{some_of-map, step}
 use Rattle.sig_table.specs.Chosen.{nothing_table}
 use Rattle.sig_table.specs.Kinds.{text_table}
 use Rattle.sig_table.specs.Table.{at_most_one, fits, is_empty, member_in, oneof_row, optional_row, passes, required_row}

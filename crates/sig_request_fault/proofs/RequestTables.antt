@@ -22,8 +22,8 @@ use Rattle.sig_request_fault.proofs.RowTables.{accepted_is, bytes_is, entries_is
 use Rattle.sig_request_fault.specs.PolicyTable.{policy_table}
 use Rattle.sig_request_fault.specs.RequestTable.{consistency_table, digest_table, log_table, verify_table}
 use Rattle.sig_request_fault.specs.RowTable.{accepted_table, entries_table, row_table, scheme_table}
-use Rattle.sig_table.proofs.TableOf.{elements_table, not_optional, optional_holds, optional_or_holds, other_kind_table}
-use Rattle.sig_table.proofs.TableOf.{record_is, required_holds, step}
+use Rattle.sig_table.proofs.RecordTables.{elements_table, not_optional, optional_holds, optional_or_holds, other_kind_table}
+use Rattle.sig_table.proofs.RecordTables.{record_is, required_holds, step}
 use Rattle.sig_table.specs.Kinds.{bytes_table, hash_table, i64_table, text_table, u64_table}
 use Rattle.sig_table.specs.Table.{Row, elements, optional_row, required_row, row_holds}
 use Rattle.sig_table.specs.TableOf.{IsTableOf}

@@ -9,8 +9,8 @@ use Rattle.sig_json.specs.Member.{member_of, required, there_or}
 use Rattle.sig_request.specs.Row.{accepted_of, entries_of, no_kind, operation_kind, row_of, scheme_for, scheme_kind}
 use Rattle.sig_request_fault.specs.RowTable.{accepted_table, entries_table, operation_in, operation_table, row_table}
 use Rattle.sig_request_fault.specs.RowTable.{scheme_row, scheme_table}
-use Rattle.sig_table.proofs.TableOf.{beyond_range_table, elements_table, not_required, optional_holds, other_kind_table}
-use Rattle.sig_table.proofs.TableOf.{record_is, required_holds, step}
+use Rattle.sig_table.proofs.RecordTables.{beyond_range_table, elements_table, not_required, optional_holds, other_kind_table}
+use Rattle.sig_table.proofs.RecordTables.{record_is, required_holds, step}
 use Rattle.sig_table.specs.Chosen.{nothing_table}
 use Rattle.sig_table.specs.Kinds.{bytes_table, hash_table, i64_table, text_table, u64_table}
 use Rattle.sig_table.specs.Table.{member_in, row_holds}

@@ -2,13 +2,13 @@
 -- the trusted root that it has, or why it has none.
 use Rattle.std.proofs.Common.{◌≡◌, ℕ, List, [], ◌∷◌, codes, Option, Some, None, option_map, Result, Ok, Err}
 use Rattle.std.proofs.Common.{IfOk, refl, sym, ap, ◌∙◌, inl, inr}
-use Rattle.sig_base.proofs.ComesLaws.{comes_where}
+use Rattle.sig_base.proofs.ResultRuleLaws.{comes_where}
 use Rattle.sig_base.specs.Answers.{Answers, ComesWhere, UnlessMemory}
 use Rattle.sig_base.specs.OptionSteps.{◌>>=◌}
 use Rattle.sig_base.specs.declared.error.SigstoreError.{SigstoreError}
 use Rattle.sig_base.specs.declared.error.SigstoreError.TheVariants.{OutOfMemory, SigstorePKIFileMalformedError}
 use Rattle.sig_base.specs.declared.fault.PkiFault.TheVariants.{NotReadable, TrustedRootMissing}
-use Rattle.sig_json.proofs.Only.{optional_or-only}
+use Rattle.sig_json.proofs.NamedMembers.{optional_or-only}
 use Rattle.sig_json.proofs.Records.{record_in-read, record_in-tree, record_with-same}
 use Rattle.sig_json.specs.Data.{Data, Members, null, boolean, number, string, array, object}
 use Rattle.sig_json.specs.Find.{as_object, get}

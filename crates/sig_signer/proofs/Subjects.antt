@@ -4,7 +4,7 @@ use Rattle.std.proofs.Common.{refl, sym, ap, subst, ◌∙◌, inl, inr, option_
 use Rattle.std.specs.List.{AllByRecursion}
 use Rattle.std.specs.Option.{ok_or}
 use Rattle.std.specs.Str.{IsUtf8}
-use Rattle.sig_base.proofs.ComesLaws.{comes_where}
+use Rattle.sig_base.proofs.ResultRuleLaws.{comes_where}
 use Rattle.sig_base.specs.Answers.{Answers, ComesWhere}
 use Rattle.sig_base.specs.OptionSteps.{or_else}
 use Rattle.sig_base.specs.declared.error.SigstoreError.{SigstoreError}

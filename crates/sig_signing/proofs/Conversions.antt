@@ -6,7 +6,7 @@ use Rattle.std.proofs.Common.{refl, sym, ap, subst, ◌∙◌, inl, inr}
 use Rattle.std.proofs.lemmas.Bool.{lt-ltb, ltb-true}
 use Rattle.std.specs.List.{AllByRecursion}
 use Rattle.std.specs.Option.{ok_or}
-use Rattle.sig_base.proofs.ComesLaws.{comes_where}
+use Rattle.sig_base.proofs.ResultRuleLaws.{comes_where}
 use Rattle.sig_base.proofs.ResultSteps.{bind_err, bind_ok, ok_is, when_ok}
 use Rattle.sig_base.specs.Answers.{Answers, ComesWhere, UnlessMemory}
 use Rattle.sig_base.specs.Base64.{base64_bytes}

@@ -14,7 +14,7 @@ use sig_rekor_models::Body;
 use std::alloc::Global;
 
 /// The bytes that each of the texts is in hexadecimal, in order.
-#[tactic(auto, using(sig_base::proofs::EachFrom::each_left))]
+#[tactic(auto, using(sig_base::proofs::IndexedElements::each_left))]
 pub(crate) fn decode_each_hex(alloc: Global, texts: &Entries) -> Result<Entries, ConversionError>
     ensures { Answers ConversionError.OutOfMemory (λ found. found) result (each_from hex_at 0 texts.now) }
 {

@@ -3,5 +3,5 @@ pub mod Faults
 pub mod Integers
 pub mod SizedLists
 pub mod Steps
-pub mod TableOf
+pub mod RecordTables
 pub mod TextFaults

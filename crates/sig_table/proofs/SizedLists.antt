@@ -6,7 +6,7 @@ use Rattle.sig_base.specs.OptionSteps.{◌>>=◌}
 use Rattle.sig_json.specs.Data.{Data}
 use Rattle.sig_json.specs.List.{list_of}
 use Rattle.sig_json.specs.Member.{each, list_each}
-use Rattle.sig_table.proofs.TableOf.{each_some}
+use Rattle.sig_table.proofs.RecordTables.{each_some}
 use Rattle.sig_table.specs.Chosen.{length_cause, sized, wrong_or}
 use Rattle.sig_table.specs.Kinds.{unless}
 use Rattle.sig_table.specs.Table.{Table, elements, fits}

@@ -19,7 +19,7 @@
 //! - A fault has a path, of names and indices, and a cause: the member is absent, of another kind, an integer outside
 //!   the range of its kind, or beside another of which only one may be there.
 //! - Where each row of a table is that of a step by which sig_json reads a record, the table is that of the record: a
-//!   tree keeps to it if and only if it is read (proofs/TableOf.antt).
+//!   tree keeps to it if and only if it is read (proofs/RecordTables.antt).
 #![tactic(auto)]
 
 mod fault;

@@ -18,7 +18,7 @@ use Rattle.sig_timestamp.specs.RingKey.{RingKey}
 use Rattle.sig_timestamp.specs.Keyring.{IsRingKey, AreKnown, IsMalformedKey, IsOtherKey, is_identifier, is_null}
 use Rattle.sig_timestamp.specs.Keyring.{point_under, point_of}
 use Rattle.sig_timestamp.proofs.KeyLaws.{point_of_takes, point_of_known, point_of_none}
-use Rattle.sig_base.proofs.ComesLaws.{error_where}
+use Rattle.sig_base.proofs.ResultRuleLaws.{error_where}
 
 abbrev Point : Type 0
 Point = Result (List ℕ) KeyringError

@@ -4,9 +4,9 @@ pub mod KeyringLaws
 pub mod VouchedLaws
 pub mod VectorLaws
 pub mod SctLaws
-pub mod OnlyOne
+pub mod SingleVectors
 pub mod PrecertLaws
 mod KeptLaws
 mod StructLaws
 pub mod EmbeddedLaws
-pub mod CertificateSaid
+pub mod CertificateScts

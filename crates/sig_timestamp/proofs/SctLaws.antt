@@ -11,7 +11,7 @@ use Rattle.sig_timestamp.specs.Numbers.{v1}
 use Rattle.sig_der.proofs.Bytes.{IsBytes, IsBytes-right, IsBytes-left, IsBytes-tail}
 use Rattle.sig_der.proofs.Takings.{take_whole_takes, take_whole_again}
 use Rattle.sig_der.proofs.KeyInfos.{content_fits}
-use Rattle.sig_der.proofs.Many.{many_at_takes, many_at_again}
+use Rattle.sig_der.proofs.ElementLists.{many_at_takes, many_at_again}
 use Rattle.sig_timestamp.specs.Vectors.{vector, uint16_bytes, IsShort, bytes_at, vector_at, whole_vector}
 use Rattle.sig_timestamp.specs.SctList.{Sct, IsSct, IsSctList, eight_bytes, signed_at, after_version, sct_at, list_in}
 use Rattle.sig_timestamp.specs.SctList.{sct_list_at}

@@ -10,7 +10,7 @@ use Rattle.sig_der.specs.FrontReaders.{many_at}
 use Rattle.sig_der.specs.KeyInfo.{is_empty}
 use Rattle.sig_der.proofs.Bytes.{IsBytes}
 use Rattle.sig_der.proofs.KeyInfos.{none_left}
-use Rattle.sig_der.proofs.Many.{IsReader, many_at_none, many_at_more, many_at_stops}
+use Rattle.sig_der.proofs.ElementLists.{IsReader, many_at_none, many_at_more, many_at_stops}
 use Rattle.sig_timestamp.specs.Vectors.{vector, IsShort, bytes_at, vector_at, whole_vector}
 
 -- ---- so many bytes

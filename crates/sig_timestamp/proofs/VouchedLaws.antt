@@ -14,7 +14,7 @@ use Rattle.sig_timestamp.specs.RingKey.{point_at}
 use Rattle.sig_timestamp.specs.Keyring.{vouch}
 use Rattle.sig_timestamp.specs.SctBytes.{signed_bytes, as_sct_result, judged}
 use Rattle.sig_timestamp.specs.Vouched.{AcceptsPoint, Ring, IsSignedUnder, HasBytes, IsSignedByLog, IsOfUnknownLog}
-use Rattle.sig_base.proofs.ComesLaws.{comes_where}
+use Rattle.sig_base.proofs.ResultRuleLaws.{comes_where}
 
 abbrev Vouch : Type 0
 Vouch = Result (Unit {0}) KeyringError

@@ -1,3 +1,3 @@
-pub mod ClaimsRead
+pub mod ClaimReadings
 pub mod Parts
 pub mod Tokens

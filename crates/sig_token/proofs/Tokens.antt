@@ -5,7 +5,7 @@ use Rattle.std.proofs.lemmas.Bool.{false_from_ne_true}
 use Rattle.std.proofs.lemmas.Slice.Eq.{bytes_eq-Decides}
 use Rattle.std.specs.Option.{ok_or}
 use Rattle.std.specs.Str.{bytes_eq}
-use Rattle.sig_base.proofs.ComesLaws.{error_where}
+use Rattle.sig_base.proofs.ResultRuleLaws.{error_where}
 use Rattle.sig_base.proofs.ResultSteps.{bind_err, bind_ok, ok_is, when_ok}
 use Rattle.sig_base.specs.Answers.{Answers, ComesWhere, UnlessMemory}
 use Rattle.sig_base.specs.ResultSteps.{◌>>=◌}

@@ -10,7 +10,7 @@ use Rattle.sig_certificate.proofs.CertificateBytes.{key_fits}
 use Rattle.sig_certificate.specs.Certificate.{Cert, IsCertificate}
 use Rattle.sig_certificate.specs.Certificates.{AreCertificates}
 use Rattle.sig_der.proofs.Bytes.{IsBytes}
-use Rattle.sig_timestamp.proofs.CertificateSaid.{said}
+use Rattle.sig_timestamp.proofs.CertificateScts.{said}
 use Rattle.sig_verify.specs.LinkLaws.{IsReadCertificate}
 
 pub read_as : (text : List ℕ) (c : Checked) → IsCertificate text c.certificate → AreBytes text → IsReadCertificate c

@@ -3,7 +3,7 @@ pub mod Origins
 pub mod Heads
 pub mod UpdateAnswers
 pub mod StateLines
-pub mod StateBack
+pub mod StateReadings
 pub mod ReadLines
 pub mod StateReads
 pub mod StateWrites

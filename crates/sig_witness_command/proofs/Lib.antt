@@ -3,9 +3,9 @@ pub mod Starts
 pub mod Walks
 pub mod Refusals
 pub mod Replies
-pub mod EachOnce
+pub mod DistinctRows
 pub mod Lookups
 pub mod Marks
 pub mod Listings
 pub mod QuestionReplies
-pub mod WitnessRowsSuffice
+pub mod SufficientWitnessRows

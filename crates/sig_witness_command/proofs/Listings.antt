@@ -22,7 +22,7 @@ use Rattle.sig_reply.specs.RowsText.{IsDocumentOf, rows_text}
 use Rattle.sig_witness.specs.KeptLogs.{log_key}
 use Rattle.sig_witness.specs.Updates.{Update, update_of}
 use Rattle.sig_witness_command.proofs.Marks.{next-place, put-more, put-past}
-use Rattle.sig_witness_command.proofs.EachOnce.{once-begins, once-parts}
+use Rattle.sig_witness_command.proofs.DistinctRows.{once-begins, once-parts}
 use Rattle.sig_witness_command.specs.Outcome.{HasReading, IsUpdate}
 use Rattle.sig_witness_command.specs.Questions.{IsNotesDocument, checkpoint_rows, each_once_after, note_rows}
 use Rattle.sig_witness_command.specs.Questions.{rows_under, signature_row, update_rows, with_row, witness_rows}

@@ -8,7 +8,7 @@ use Rattle.std.specs.declared.cmp.Ordering.{Ordering}
 use Rattle.std.specs.declared.cmp.Ordering.TheVariants.{Less, Equal, Greater}
 use Rattle.sig_base.specs.ByText.{text_lookup, text_put}
 use Rattle.sig_witness.proofs.Entries.{compared, compared-same}
-use Rattle.sig_witness_command.proofs.EachOnce.{if-false, if-true}
+use Rattle.sig_witness_command.proofs.DistinctRows.{if-false, if-true}
 
 pub same-text : (text : List ℕ) → bytes_eq text text ≡ true
 same-text text = (bytes_decides text text).1 refl

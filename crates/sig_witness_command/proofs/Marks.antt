@@ -11,7 +11,7 @@ use Rattle.sig_base.specs.declared.checker.AcceptedRow.{AcceptedRow}
 use Rattle.sig_json.proofs.StableKinds.{is_list-with_last}
 use Rattle.sig_json.specs.Tree.{document_tree}
 use Rattle.sig_key.specs.declared.verification_key.CosignVerificationKey.{CosignVerificationKey}
-use Rattle.sig_rekor.proofs.Graphic.{decimal-graphic, graphic-free}
+use Rattle.sig_rekor.proofs.GraphicTexts.{decimal-graphic, graphic-free}
 use Rattle.sig_rekor.specs.NoteText.{note_text}
 use Rattle.sig_rekor.specs.declared.checkpoint.SignedCheckpoint.{SignedCheckpoint}
 use Rattle.sig_reply.proofs.RowsTexts.{list_of-more, list_of-none, list_of-past}
@@ -20,7 +20,7 @@ use Rattle.sig_witness.proofs.Entries.{found-all, none-there}
 use Rattle.sig_witness.specs.KeptLogs.{IsOriginText, log_key}
 use Rattle.sig_witness.specs.declared.kept_log.KeptLog.{KeptLog}
 use Rattle.sig_witness_command.proofs.Lookups.{put-cases, put-found, split-same}
-use Rattle.sig_witness_command.proofs.EachOnce.{absent-behind, once-begins, there-same}
+use Rattle.sig_witness_command.proofs.DistinctRows.{absent-behind, once-begins, there-same}
 use Rattle.sig_witness_command.specs.Questions.{each_once_after, key_row, with_row}
 use Rattle.sig_witness_command.specs.RowList.{HasRoom, IsCoded, IsEmptyList, IsListSoFar, IsMarked, IsNewRow, IsNumbered, IsPut, IsSameList, pair_of}
 use Rattle.sig_witness_command.specs.Start.{HaveLines, Logs}

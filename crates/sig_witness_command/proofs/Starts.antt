@@ -2,7 +2,7 @@
 use Rattle.std.proofs.Common.{◌≡◌, ◌<◌, ◌≤◌, ◌+◌, ◌∙◌, ℕ, List, [], ◌∷◌, ◌++◌, length, take, drop, get_or, inl, inr, Some, None, Ok, Err, ap, refl, subst, sym, Option}
 use Rattle.std.proofs.lemmas.List.{append_assoc, take-append-drop, take_all, take_more}
 use Rattle.sig_base.specs.ByText.{text_put}
-use Rattle.sig_witness.proofs.StateBack.{same-answers, same-key}
+use Rattle.sig_witness.proofs.StateReadings.{same-answers, same-key}
 use Rattle.sig_witness.specs.KeptLogs.{new_log}
 use Rattle.sig_witness.specs.StateCauses.{IsStateFault}
 use Rattle.sig_witness.specs.StateText.{IsStateOf}

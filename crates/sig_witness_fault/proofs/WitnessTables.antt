@@ -12,7 +12,7 @@ use Rattle.sig_request_fault.proofs.RequestTables.{all_then, holds, rows_first, 
 use Rattle.sig_request_fault.proofs.RowTables.{bytes_is, hash_is, scheme_is, text_is, u64_is}
 use Rattle.sig_request_fault.specs.RowTable.{scheme_table}
 use Rattle.sig_table.proofs.SizedLists.{as_many, sized_of, sized_table}
-use Rattle.sig_table.proofs.TableOf.{elements_table, not_required, optional_or_holds, record_is, required_holds, step}
+use Rattle.sig_table.proofs.RecordTables.{elements_table, not_required, optional_or_holds, record_is, required_holds, step}
 use Rattle.sig_table.specs.Chosen.{is_between}
 use Rattle.sig_table.specs.Kinds.{bytes_table, hash_table, text_table, u64_table}
 use Rattle.sig_table.specs.Table.{elements, member_in, optional_row, row_holds}

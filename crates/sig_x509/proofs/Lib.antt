@@ -1,18 +1,18 @@
 pub mod IssuanceLaws
 pub mod IssuedLaws
-pub mod PathAlone
+pub mod DirectPaths
 pub mod PathAnswers
-pub mod PathAsked
+pub mod PathSignatures
 pub mod AnchorLaws
 pub mod Bits
 pub mod PossibleRows
 mod PossibleLists
 pub mod PossibleLaws
-mod AskedSoFar
+mod AskedAnchors
 mod Counts
 mod CycleLaws
 pub mod Elements
-mod FirstAsked
+mod FirstAskedAnchors
 mod IndexLaws
 mod KeyAnswers
 mod KeyOrders

@@ -14,7 +14,7 @@ use Rattle.sig_x509.specs.Pool.{Pool, with_further}
 use Rattle.sig_x509.specs.declared.issuer.Issuer.{Issuer}
 use Rattle.sig_x509.proofs.PathAnswers.{failed_has_none, first_is_issued, issued_is_first, malformed_has_none}
 use Rattle.sig_x509.proofs.PathAnswers.{none_is_failed, unprofiled}
-use Rattle.sig_x509.proofs.PathAsked.{asked_alone}
+use Rattle.sig_x509.proofs.PathSignatures.{asked_alone}
 
 comes : (r m target : Result Issuer PoolError) (P : Type 0) → Meant r m → (target ≡ Err OutOfMemory → ⊥)
     → (m ≡ target → P) → (P → m ≡ target) → ComesWhere OutOfMemory r target P

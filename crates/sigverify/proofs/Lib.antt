@@ -1,1 +1,1 @@
-pub mod MadeAgain
+pub mod RepeatedCalls

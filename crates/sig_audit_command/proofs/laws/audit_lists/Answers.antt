@@ -1,5 +1,5 @@
 use Rattle.sig_audit_command.proofs.QuestionReplies.{lists_given_back}
-use Rattle.sig_audit_command.proofs.AuditRowsSuffice.{audit_suffices}
+use Rattle.sig_audit_command.proofs.SufficientAuditRows.{audit_suffices}
 use Rattle.sig_audit_command.proofs.laws.audit_lists.Goals as goal
 
 pub returns-clause-suffice : goal.returns-clause-suffice

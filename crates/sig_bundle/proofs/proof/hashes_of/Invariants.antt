@@ -1,5 +1,5 @@
 use Rattle.std.proofs.Common.{◌≡◌}
-use Rattle.sig_base.proofs.EachFrom.{with_left}
+use Rattle.sig_base.proofs.IndexedElements.{with_left}
 use Rattle.sig_bundle.specs.Proof.{path_hash_at, path_hashes_from}
 use Rattle.sig_bundle.proofs.proof.hashes_of.Given as goal
 

@@ -1,4 +1,4 @@
-use Rattle.sig_json.proofs.OrMember.{is_read}
+use Rattle.sig_json.proofs.ReaderResults.{is_read}
 use Rattle.sig_bundle.specs.BundleRecord.{content_of}
 use Rattle.sig_bundle.proofs.read_content.read_content.Goals as goal
 

@@ -3,7 +3,7 @@ use Rattle.std.specs.Prelude.{is_some}
 use Rattle.std.proofs.lemmas.Bool.{eqb-true, eqb-false}
 use Rattle.std.proofs.lemmas.List.{nil_from_length}
 use Rattle.sig_der.specs.FrontReaders.{many_at}
-use Rattle.sig_der.proofs.Many.{many_at_none, many_at_stops}
+use Rattle.sig_der.proofs.ElementLists.{many_at_none, many_at_stops}
 use Rattle.sig_certificate.specs.Names.{Name, name_at}
 use Rattle.sig_certificate.proofs.WalkLaws.{name_at_shrinks, is_list_more}
 use Rattle.sig_certificate.proofs.general_names.are_names.Goals as goal

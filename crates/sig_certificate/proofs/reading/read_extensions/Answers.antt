@@ -5,7 +5,7 @@ use Rattle.std.proofs.lemmas.List.Elements.{All-push}
 use Rattle.std.proofs.lemmas.List.Quantifiers.{all_pairs_push}
 use Rattle.sig_base.proofs.OptionSteps.{some}
 use Rattle.sig_der.specs.Readers.{left}
-use Rattle.sig_der.proofs.Many.{goes_on, ends_list, fails_list}
+use Rattle.sig_der.proofs.ElementLists.{goes_on, ends_list, fails_list}
 use Rattle.sig_certificate.specs.declared.extensions.ExtensionPlaces.{ExtensionPlaces}
 use Rattle.sig_certificate.specs.Answers.{or_der}
 use Rattle.sig_certificate.specs.Certificate.{Extension}

@@ -2,7 +2,7 @@ use Rattle.std.proofs.Common.{◌≡◌, ◌-◌, ◌<◌, map}
 use Rattle.std.specs.List.{All}
 use Rattle.sig_der.specs.Readers.{left}
 use Rattle.sig_der.specs.FrontReaders.{many_at}
-use Rattle.sig_der.proofs.Many.{with_front}
+use Rattle.sig_der.proofs.ElementLists.{with_front}
 use Rattle.sig_certificate.specs.declared.extensions.ExtensionPlaces.{ExtensionPlaces}
 use Rattle.sig_certificate.specs.Cutting.{extension_at}
 use Rattle.sig_certificate.specs.Places.{extension_of, AreSpans, Ascend}

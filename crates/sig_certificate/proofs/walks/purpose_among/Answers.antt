@@ -2,7 +2,7 @@ use Rattle.std.proofs.Common.{List, ℕ, Option, length, sym, ap, ◌∙◌}
 use Rattle.std.specs.Str.{bytes_eq}
 use Rattle.std.proofs.lemmas.Bool.{eqb-true, eqb-false}
 use Rattle.std.proofs.lemmas.List.{nil_from_length}
-use Rattle.sig_der.proofs.Many.{many_at_stops}
+use Rattle.sig_der.proofs.ElementLists.{many_at_stops}
 use Rattle.sig_certificate.specs.Values.{oid_at}
 use Rattle.sig_certificate.proofs.WalkLaws.{oid_at_shrinks, any_more, any_goes_on, any_ends}
 use Rattle.sig_certificate.proofs.walks.purpose_among.Goals as goal

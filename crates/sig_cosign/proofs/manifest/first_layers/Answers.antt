@@ -1,6 +1,6 @@
 -- One more layer: of a new digest, or of one that the map has.
 use Rattle.std.proofs.Common.{rules, drop, sym, ◌∙◌, ◌+◌, subst}
-use Rattle.sig_cosign.proofs.Firsts.{AreFirsts, Held, held_at, new_at}
+use Rattle.sig_cosign.proofs.FirstLayers.{AreFirsts, Held, held_at, new_at}
 use Rattle.sig_cosign.proofs.manifest.first_layers.Goals as goal
 use Rattle.sig_cosign.proofs.manifest.first_layers.Goals.{then-is_none+in_ok-insert, else-is_none}
 

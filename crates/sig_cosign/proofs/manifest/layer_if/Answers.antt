@@ -1,6 +1,6 @@
 use Rattle.std.proofs.Common.{ap, option_map, w64, FitsSigned, arith, rules, ℤ}
 use Rattle.std.proofs.lemmas.Int.{ints, to_z-of_z}
-use Rattle.sig_cosign.proofs.LayersOf.{err_found, err_only, ok_found, ok_only}
+use Rattle.sig_cosign.proofs.DescriptorLayers.{err_found, err_only, ok_found, ok_only}
 use Rattle.sig_cosign.specs.Trust.{trust_in}
 use Rattle.sig_cosign.proofs.manifest.layer_if.Goals as goal
 

@@ -1,6 +1,6 @@
 use Rattle.std.proofs.Common.{ap, option_map, w64, FitsSigned, arith, rules, ℤ}
 use Rattle.std.proofs.lemmas.Int.{ints, to_z-of_z}
-use Rattle.sig_cosign.proofs.LayersOf.{in_found, in_only}
+use Rattle.sig_cosign.proofs.DescriptorLayers.{in_found, in_only}
 use Rattle.sig_cosign.specs.Trust.{trust_in}
 use Rattle.sig_cosign.proofs.manifest.layer_in.Goals as goal
 

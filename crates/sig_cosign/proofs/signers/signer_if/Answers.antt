@@ -1,6 +1,6 @@
 use Rattle.std.proofs.Common.{w64, FitsSigned, arith, rules}
 use Rattle.std.proofs.lemmas.Int.{ints, to_z-of_z}
-use Rattle.sig_cosign.proofs.SignersOf.{err_found, err_only, ok_found, ok_only}
+use Rattle.sig_cosign.proofs.LayerSigners.{err_found, err_only, ok_found, ok_only}
 use Rattle.sig_cosign.proofs.signers.signer_if.Goals as goal
 
 pub returns-in-Ok-clause-found : goal.returns-in-Ok-clause-found

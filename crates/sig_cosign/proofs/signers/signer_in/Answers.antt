@@ -1,6 +1,6 @@
 use Rattle.std.proofs.Common.{w64, FitsSigned, arith, rules, ap, option_map}
 use Rattle.std.proofs.lemmas.Int.{ints, to_z-of_z}
-use Rattle.sig_cosign.proofs.SignersOf.{in_found, in_only}
+use Rattle.sig_cosign.proofs.LayerSigners.{in_found, in_only}
 use Rattle.sig_cosign.proofs.signers.signer_in.Goals as goal
 
 pub returns-in-Some-clause-found : goal.returns-in-Some-clause-found

@@ -1,6 +1,6 @@
 -- The row is written, and read back.
 use Rattle.std.proofs.Common.{◌∙◌}
-use Rattle.sig_demo.proofs.Back.{row_back, row_written}
+use Rattle.sig_demo.proofs.RequestReadings.{row_back, row_written}
 use Rattle.sig_demo.proofs.request.row_document.Goals as goal
 
 pub returns-clause-tree : goal.returns-clause-tree

@@ -2,7 +2,7 @@
 use Rattle.std.proofs.Common.{[]}
 use Rattle.sig_json.proofs.WrittenLists.{list_back-append, list_back-none}
 use Rattle.sig_request.specs.Row.{row_of}
-use Rattle.sig_demo.proofs.Back.{always}
+use Rattle.sig_demo.proofs.RequestReadings.{always}
 use Rattle.sig_demo.specs.Request.{row_over, row_tree}
 use Rattle.sig_demo.proofs.request.with_row.Goals as goal
 

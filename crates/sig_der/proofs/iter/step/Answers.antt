@@ -1,6 +1,6 @@
 use Rattle.std.proofs.Common.{length, sym, ◌∙◌}
 use Rattle.std.proofs.lemmas.Bool.{eqb-false}
-use Rattle.sig_der.proofs.Childs.{children_nil, children_ok, children_err_first}
+use Rattle.sig_der.proofs.ChildElements.{children_nil, children_ok, children_err_first}
 use Rattle.sig_der.proofs.iter.step.Goals as goal
 
 pub returns-then-is_empty : goal.returns-then-is_empty

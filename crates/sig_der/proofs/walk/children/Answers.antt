@@ -1,4 +1,4 @@
-use Rattle.sig_der.proofs.Childs.{children_joined}
+use Rattle.sig_der.proofs.ChildElements.{children_joined}
 use Rattle.sig_der.proofs.walk.children.Goals as goal
 
 pub returns-clause-elements : goal.returns-clause-elements

@@ -1,5 +1,5 @@
 use Rattle.sig_gate_command.proofs.AskedRows.{gate_rows_each_once}
-use Rattle.sig_gate_command.proofs.GateRowsSuffice.{gate_suffices}
+use Rattle.sig_gate_command.proofs.SufficientGateRows.{gate_suffices}
 use Rattle.sig_gate_command.proofs.QuestionReplies.{lists_given_back}
 use Rattle.sig_gate_command.proofs.laws.gate_lists.Goals as goal
 

@@ -1,4 +1,4 @@
-use Rattle.sig_json.proofs.Only.{get-dropped, get-others, without-same}
+use Rattle.sig_json.proofs.NamedMembers.{get-dropped, get-others, without-same}
 use Rattle.sig_json.proofs.laws.members_are_dropped.Goals as goal
 
 pub returns : goal.returns

@@ -1,4 +1,4 @@
-use Rattle.sig_json.proofs.Only.{get-only, get-none, only-same}
+use Rattle.sig_json.proofs.NamedMembers.{get-only, get-none, only-same}
 use Rattle.sig_json.proofs.laws.members_are_kept.Goals as goal
 
 pub returns : goal.returns

@@ -1,4 +1,4 @@
-use Rattle.sig_json_text.proofs.Large.{large_exact}
+use Rattle.sig_json_text.proofs.LargeIntegers.{large_exact}
 use Rattle.sig_json_text.proofs.laws.large_integers.Goals as goal
 
 pub returns : goal.returns

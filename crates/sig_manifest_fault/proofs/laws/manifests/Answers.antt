@@ -1,5 +1,5 @@
 -- The table of manifests is theirs.
-use Rattle.sig_manifest_fault.proofs.Ascends.{named-ascends}
+use Rattle.sig_manifest_fault.proofs.AscendingNames.{named-ascends}
 use Rattle.sig_manifest_fault.proofs.ManifestFaults.{manifest-none, none-manifest}
 use Rattle.sig_manifest_fault.proofs.ManifestTables.{manifest_is}
 use Rattle.sig_manifest_fault.proofs.laws.manifests.Goals as goal

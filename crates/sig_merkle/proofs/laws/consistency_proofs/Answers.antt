@@ -1,6 +1,6 @@
 use Rattle.std.proofs.Common.{true, false}
 use Rattle.sig_merkle.proofs.SubproofLaws.{subproof-shared, subproof-left, subproof-right}
-use Rattle.sig_merkle.proofs.SubproofAccepted.{consistency_proof-accepted, same_tree-accepted, from_empty-accepted}
+use Rattle.sig_merkle.proofs.AcceptedSubproofs.{consistency_proof-accepted, same_tree-accepted, from_empty-accepted}
 use Rattle.sig_merkle.proofs.laws.consistency_proofs.Goals as goal
 
 pub returns : goal.returns

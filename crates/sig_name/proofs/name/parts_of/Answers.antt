@@ -1,6 +1,6 @@
 -- The parts so far, and then those of the rest, are all.
 use Rattle.std.proofs.Common.{sym}
-use Rattle.sig_der.proofs.Many.{ends_list, fails_list}
+use Rattle.sig_der.proofs.ElementLists.{ends_list, fails_list}
 use Rattle.sig_der.specs.FrontReaders.{many_at}
 use Rattle.sig_name.proofs.Parts.{none_left, one_more, part_at_shrinks, some_left}
 use Rattle.sig_name.specs.Name.{part_at}

@@ -1,5 +1,5 @@
 -- Nothing else matters.
-use Rattle.sig_program.proofs.ConsistencyRowsSuffice.{consistency_questions_suffice}
+use Rattle.sig_program.proofs.SufficientConsistencyRows.{consistency_questions_suffice}
 use Rattle.sig_program.proofs.consistency_questions.consistency_questions.Goals as goal
 
 pub returns-clause-suffice : goal.returns-clause-suffice

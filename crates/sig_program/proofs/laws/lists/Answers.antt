@@ -1,9 +1,9 @@
 -- Nothing else matters, a link that is named is the first that fails whatever is accepted, and a list fits.
-use Rattle.sig_program.proofs.GivingBack.{consistency_lists, log_lists, verify_lists}
-use Rattle.sig_program.proofs.ConsistencyRowsSuffice.{consistency_questions_suffice}
-use Rattle.sig_program.proofs.LogRowsSuffice.{log_questions_suffice}
+use Rattle.sig_program.proofs.GivenBackLists.{consistency_lists, log_lists, verify_lists}
+use Rattle.sig_program.proofs.SufficientConsistencyRows.{consistency_questions_suffice}
+use Rattle.sig_program.proofs.SufficientLogRows.{log_questions_suffice}
 use Rattle.sig_program.proofs.VerifyQuestionReplies.{refuses_for_all}
-use Rattle.sig_program.proofs.VerifyRowsSuffice.{verify_questions_suffice}
+use Rattle.sig_program.proofs.SufficientVerifyRows.{verify_questions_suffice}
 use Rattle.sig_program.proofs.laws.lists.Goals as goal
 
 pub returns-clause-log : goal.returns-clause-log

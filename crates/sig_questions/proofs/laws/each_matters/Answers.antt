@@ -1,4 +1,4 @@
-use Rattle.sig_questions.proofs.EachMatters.{questions_matter}
+use Rattle.sig_questions.proofs.NecessaryQuestions.{questions_matter}
 use Rattle.sig_questions.proofs.laws.each_matters.Goals as goal
 
 pub returns : goal.returns

@@ -1,4 +1,4 @@
-use Rattle.sig_questions.proofs.Few.{questions_few}
+use Rattle.sig_questions.proofs.QuestionCounts.{questions_few}
 use Rattle.sig_questions.proofs.laws.few.Goals as goal
 
 pub returns : goal.returns

@@ -1,4 +1,4 @@
-use Rattle.sig_questions.proofs.Shorter.{issuer_rests}
+use Rattle.sig_questions.proofs.ShorterPaths.{issuer_rests}
 use Rattle.sig_questions.proofs.laws.issuer_rests.Goals as goal
 
 pub returns : goal.returns

@@ -1,4 +1,4 @@
-use Rattle.sig_questions.proofs.Suffices.{questions_suffice}
+use Rattle.sig_questions.proofs.SufficientLists.{questions_suffice}
 use Rattle.sig_questions.proofs.laws.questions_suffice.Goals as goal
 
 pub returns : goal.returns

@@ -1,5 +1,5 @@
 use Rattle.std.proofs.Common.{◌≡◌}
-use Rattle.sig_base.proofs.EachFrom.{with_left}
+use Rattle.sig_base.proofs.IndexedElements.{with_left}
 use Rattle.sig_rekor.specs.HashText.{hash_at, hashes_from}
 use Rattle.sig_rekor.proofs.hash_text.decode_hashes.Given as goal
 

@@ -1,5 +1,5 @@
 use Rattle.std.proofs.Common.{◌≡◌}
-use Rattle.sig_base.proofs.EachFrom.{with_left}
+use Rattle.sig_base.proofs.IndexedElements.{with_left}
 use Rattle.sig_base.specs.ResultSteps.{each_from}
 use Rattle.sig_signing.specs.Decoded.{hex_at}
 use Rattle.sig_signing.proofs.decoded.decode_each_hex.Given as goal

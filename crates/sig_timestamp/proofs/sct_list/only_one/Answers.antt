@@ -1,5 +1,5 @@
 -- What the first vector says of the list.
-use Rattle.sig_timestamp.proofs.OnlyOne.{only_none, only_first, only_more}
+use Rattle.sig_timestamp.proofs.SingleVectors.{only_none, only_first, only_more}
 use Rattle.sig_timestamp.proofs.sct_list.only_one.Goals as goal
 
 pub returns-in-None : goal.returns-in-None

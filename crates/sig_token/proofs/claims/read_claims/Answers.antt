@@ -1,7 +1,7 @@
 use Rattle.std.proofs.Common.{subst}
 use Rattle.sig_base.specs.Answers.{Answers}
 use Rattle.sig_json.specs.declared.error.JsonError.TheVariants.{OutOfMemory}
-use Rattle.sig_token.proofs.ClaimsRead.{claims-listed}
+use Rattle.sig_token.proofs.ClaimReadings.{claims-listed}
 use Rattle.sig_token.proofs.claims.read_claims.Goals as goal
 
 pub returns : goal.returns

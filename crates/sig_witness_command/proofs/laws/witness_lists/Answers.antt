@@ -1,6 +1,6 @@
-use Rattle.sig_witness_command.proofs.EachOnce.{rows_each_once}
+use Rattle.sig_witness_command.proofs.DistinctRows.{rows_each_once}
 use Rattle.sig_witness_command.proofs.QuestionReplies.{lists_given_back}
-use Rattle.sig_witness_command.proofs.WitnessRowsSuffice.{witness_suffices}
+use Rattle.sig_witness_command.proofs.SufficientWitnessRows.{witness_suffices}
 use Rattle.sig_witness_command.proofs.laws.witness_lists.Goals as goal
 
 pub returns-clause-suffice : goal.returns-clause-suffice

@@ -1,7 +1,7 @@
 use Rattle.std.proofs.Common.{◌≡◌, Some, slice_get, refl, sym, ◌∙◌}
 use Rattle.std.proofs.lemmas.Bool.{not-true, not-false}
 use Rattle.std.proofs.lemmas.Option.{slice_get_read}
-use Rattle.sig_x509.proofs.AskedSoFar.{none_so_far, all_asked, one_more_asked, no_more_asked}
+use Rattle.sig_x509.proofs.AskedAnchors.{none_so_far, all_asked, one_more_asked, no_more_asked}
 use Rattle.sig_x509.proofs.asked.asked_of.Goals as goal
 use Rattle.sig_x509.proofs.asked.asked_of.Goals.{then-branch+in_ok-push, else-branch}
 

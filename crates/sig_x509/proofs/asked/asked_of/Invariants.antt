@@ -1,4 +1,4 @@
-use Rattle.sig_x509.proofs.AskedSoFar.{AreAskedSoFar}
+use Rattle.sig_x509.proofs.AskedAnchors.{AreAskedSoFar}
 use Rattle.sig_x509.proofs.asked.asked_of.Given as goal
 
 -- those of the anchors so far

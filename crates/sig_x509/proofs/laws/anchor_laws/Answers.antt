@@ -1,4 +1,4 @@
-use Rattle.sig_x509.proofs.PathAlone.{alone, first_alone, none_alone}
+use Rattle.sig_x509.proofs.DirectPaths.{alone, first_alone, none_alone}
 use Rattle.sig_x509.proofs.laws.anchor_laws.Goals as goal
 
 pub returns-clause-path : goal.returns-clause-path

@@ -1,4 +1,4 @@
-use Rattle.sig_x509.proofs.PathAlone.{issuer_issued}
+use Rattle.sig_x509.proofs.DirectPaths.{issuer_issued}
 use Rattle.sig_x509.proofs.PlaceLaws.{longer, room_at, shorter}
 use Rattle.sig_x509.proofs.laws.path_laws.Goals as goal
 

@@ -1,7 +1,7 @@
 -- All calls that may be made were interrupted.
 use Rattle.std.proofs.Common.{Some, ap, arith}
 use Rattle.std.specs.IoError.{error_kind}
-use Rattle.sigverify.proofs.MadeAgain.{all-interrupted}
+use Rattle.sigverify.proofs.RepeatedCalls.{all-interrupted}
 use Rattle.sigverify.proofs.calls.read_once.Goals as goal
 
 pub returns-clause-calls : goal.returns-clause-calls

@@ -1,5 +1,5 @@
 use Rattle.std.proofs.Common.{refl}
-use Rattle.sig_json.proofs.OrMember.{is_read}
+use Rattle.sig_json.proofs.ReaderResults.{is_read}
 use Rattle.sig_attestation.specs.Body.{spelled_in}
 use Rattle.sig_attestation.proofs.body.SpelledReaderElementReader.read.Goals as goal
 

@@ -1,5 +1,5 @@
 use Rattle.std.proofs.Common.{ap}
-use Rattle.sig_json.proofs.OrMember.{is_read}
+use Rattle.sig_json.proofs.ReaderResults.{is_read}
 use Rattle.sig_json.specs.OrMember.{or_member}
 use Rattle.sig_attestation.proofs.StatementParts.{statement-read}
 use Rattle.sig_attestation.proofs.stated.StatedReaderElementReader.read.Goals as goal

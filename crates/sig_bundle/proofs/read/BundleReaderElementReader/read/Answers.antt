@@ -1,5 +1,5 @@
 use Rattle.std.proofs.Common.{refl}
-use Rattle.sig_json.proofs.OrMember.{is_read, first_refused}
+use Rattle.sig_json.proofs.ReaderResults.{is_read, first_refused}
 use Rattle.sig_bundle.specs.BundleRecord.{bundle_of}
 use Rattle.sig_bundle.proofs.read.BundleReaderElementReader.read.Goals as goal
 

@@ -1,7 +1,7 @@
 use Rattle.std.proofs.Common.{◌≡◌, Err, arith, refl, rules, FitsSigned, w64}
 use Rattle.std.proofs.lemmas.Int.{ints}
 use Rattle.std.proofs.Math.Facts.{to_z-of_z}
-use Rattle.sig_json.proofs.OrMember.{is_read, first_refused}
+use Rattle.sig_json.proofs.ReaderResults.{is_read, first_refused}
 use Rattle.sig_bundle.specs.BundleRecord.{entry_of}
 use Rattle.sig_bundle.proofs.read_entry.EntryReaderElementReader.read.Goals as goal
 

@@ -1,4 +1,4 @@
-use Rattle.sig_bundle.proofs.EntriesBack.{entry_back}
+use Rattle.sig_bundle.proofs.EntryReadings.{entry_back}
 use Rattle.sig_bundle.proofs.EntryTrees.{entry_written}
 use Rattle.sig_bundle.proofs.write_entry.EntryWriterElementWriter.write.Goals as goal
 

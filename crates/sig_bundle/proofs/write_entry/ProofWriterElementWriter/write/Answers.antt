@@ -1,4 +1,4 @@
-use Rattle.sig_bundle.proofs.EntriesBack.{proof_back}
+use Rattle.sig_bundle.proofs.EntryReadings.{proof_back}
 use Rattle.sig_bundle.proofs.EntryTrees.{proof_written}
 use Rattle.sig_bundle.proofs.write_entry.ProofWriterElementWriter.write.Goals as goal
 

@@ -1,5 +1,5 @@
 use Rattle.std.proofs.Common.{refl}
-use Rattle.sig_json.proofs.OrMember.{is_read}
+use Rattle.sig_json.proofs.ReaderResults.{is_read}
 use Rattle.sig_checked_bundle.specs.DsseBody.{dsse_spec_of}
 use Rattle.sig_checked_bundle.proofs.dsse_body.DsseSpecReaderElementReader.read.Goals as goal
 

@@ -1,6 +1,6 @@
 -- The document is written member by member, and means the request.
 use Rattle.std.proofs.Common.{◌∙◌}
-use Rattle.sig_demo.proofs.Back.{request_back, request_written}
+use Rattle.sig_demo.proofs.RequestReadings.{request_back, request_written}
 use Rattle.sig_demo.proofs.log.DemoLog.document.Goals as goal
 
 pub returns-clause-tree : goal.returns-clause-tree

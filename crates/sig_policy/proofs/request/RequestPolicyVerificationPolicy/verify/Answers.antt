@@ -1,5 +1,5 @@
 use Rattle.sig_policy.specs.Said.{said_values}
-use Rattle.sig_policy.proofs.SaidLaws.{all_said}
+use Rattle.sig_policy.proofs.RequestedPolicyLaws.{all_said}
 use Rattle.sig_policy.proofs.request.RequestPolicyVerificationPolicy.verify.Goals as goal
 
 pub returns-in-All : goal.returns-in-All

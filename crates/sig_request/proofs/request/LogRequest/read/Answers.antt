@@ -1,5 +1,5 @@
 -- Members of other names are not asked for.
-use Rattle.sig_json.proofs.Only.{member_of-only}
+use Rattle.sig_json.proofs.NamedMembers.{member_of-only}
 use Rattle.sig_json.specs.Member.{required, optional_or}
 use Rattle.sig_request.specs.HeadMembers.{head_of}
 use Rattle.sig_request.specs.Request.{log_members}

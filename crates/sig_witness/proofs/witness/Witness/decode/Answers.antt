@@ -1,6 +1,6 @@
 -- The logs whose text it is, or its first fault; and nothing else.
 use Rattle.std.proofs.Common.{◌≡◌, inr, rules, Err}
-use Rattle.sig_witness.proofs.StateBack.{answers-fault, answers-ok, lines-fault, logs-fault}
+use Rattle.sig_witness.proofs.StateReadings.{answers-fault, answers-ok, lines-fault, logs-fault}
 use Rattle.sig_witness.proofs.StateReads.{kept-read, state-read}
 use Rattle.sig_witness.specs.StateText.{IsStateOf}
 use Rattle.sig_witness.proofs.witness.Witness.decode.Goals as goal

@@ -1,6 +1,6 @@
 -- A fault of the document; and members of other names are not asked for.
 use Rattle.std.proofs.Common.{rules}
-use Rattle.sig_json.proofs.Only.{member_of-only}
+use Rattle.sig_json.proofs.NamedMembers.{member_of-only}
 use Rattle.sig_json.specs.Member.{required, optional_or}
 use Rattle.sig_request.proofs.RequestTexts.{unread-record}
 use Rattle.sig_witness_command.specs.Request.{witness_members, witness_request}

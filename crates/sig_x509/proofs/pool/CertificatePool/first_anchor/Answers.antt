@@ -2,7 +2,7 @@
 use Rattle.std.proofs.Common.{ℕ, List, ap, ◌∙◌}
 use Rattle.std.specs.Prelude.{position}
 use Rattle.sig_x509.specs.KeyOrder.{has_some_key}
-use Rattle.sig_x509.proofs.FirstAsked.{first_asked}
+use Rattle.sig_x509.proofs.FirstAskedAnchors.{first_asked}
 use Rattle.sig_x509.proofs.KeyAnswers.{first_signed}
 use Rattle.sig_x509.proofs.pool.CertificatePool.first_anchor.Goals as goal
 

@@ -5,7 +5,7 @@ use Rattle.std.specs.Prelude.{is_some}
 use Rattle.sig_base.specs.OptionSteps.{◌>>=◌}
 use Rattle.sig_der.specs.FrontReaders.{many_at}
 use Rattle.sig_der.proofs.KeyInfos.{none_left}
-use Rattle.sig_der.proofs.Many.{many_at_none, many_at_more, many_at_stops}
+use Rattle.sig_der.proofs.ElementLists.{many_at_none, many_at_more, many_at_stops}
 use Rattle.sig_timestamp.specs.declared.sct_error.CertificateErrorKind.TheVariants.{LeafSCTMissing}
 use Rattle.sig_timestamp.specs.Vectors.{vector_at}
 use Rattle.sig_timestamp.specs.Timestamps.{only_one}

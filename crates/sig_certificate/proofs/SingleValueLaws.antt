@@ -12,7 +12,7 @@ use Rattle.sig_certificate.specs.Values.{key_usage_of, purposes_of, has_purpose,
 use Rattle.sig_certificate.specs.Profile.{Held, read_as, held, usage, constraints, code_signing}
 use Rattle.sig_certificate.specs.Faults.{Says, SayNothing, usages, constraint_lists, purpose_lists, SaysUsage}
 use Rattle.sig_certificate.specs.Faults.{SaysConstraints, SaysCodeSigning}
-use Rattle.sig_certificate.proofs.HeldLaws.{held_absent, held_one, held_several}
+use Rattle.sig_certificate.proofs.ExtensionCountLaws.{held_absent, held_one, held_several}
 
 abbrev pub said : {B : Type 0} → B → Held B
 said y = Ok (Some y)

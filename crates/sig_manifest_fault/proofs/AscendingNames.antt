@@ -14,7 +14,7 @@ use Rattle.json.specs.Json as json
 use Rattle.json.specs.Lex.{tokens}
 use Rattle.sig_base.proofs.OptionSteps.{some_is}
 use Rattle.sig_base.specs.ByText.{KeysAscend}
-use Rattle.sig_json.proofs.ByOrdering.{holds_of_choice}
+use Rattle.sig_json.proofs.OrderingChoices.{holds_of_choice}
 use Rattle.sig_json.proofs.NamedTrees.{keys-put}
 use Rattle.sig_json.specs.Data.{Data, null, boolean, number, string, array, object, Items, no_items, item}
 use Rattle.sig_json.specs.Data.{Members, no_members, member, put}

@@ -23,7 +23,7 @@ use Rattle.sig_verify.specs.RootLinks.{authorities}
 use Rattle.sig_x509.specs.Issuance.{IsAnchor}
 use Rattle.sig_x509.specs.Pool.{present}
 use Rattle.sig_x509.specs.Possible.{may_sign}
-use Rattle.sig_questions.proofs.EachRow.{AllHave, both, certificates_had, others_had, points_had}
+use Rattle.sig_questions.proofs.QuestionKinds.{AllHave, both, certificates_had, others_had, points_had}
 use Rattle.sig_questions.proofs.RowLaws.{has_one}
 use Rattle.sig_questions.specs.Asked.{signature_row}
 use Rattle.sig_questions.specs.Few.{AreFewBeside, AreFewQuestions, QuestionsAreFew, is_of}

@@ -25,7 +25,7 @@ use Rattle.sig_witness.specs.declared.kept_log.KeptLog.{KeptLog}
 use Rattle.sig_witness_command.proofs.Listings.{one-update}
 use Rattle.sig_witness_command.proofs.Lookups.{put-cases}
 use Rattle.sig_witness_command.proofs.Replies.{made-walk}
-use Rattle.sig_witness_command.proofs.EachOnce.{first-or-later, here, later, once-has}
+use Rattle.sig_witness_command.proofs.DistinctRows.{first-or-later, here, later, once-has}
 use Rattle.sig_witness_command.specs.Outcome.{IsOutcome, IsRefused, IsUpdate}
 use Rattle.sig_witness_command.specs.Questions.{checkpoint_rows, note_rows, rows_under, signature_row, update_rows, witness_rows}
 use Rattle.sig_witness_command.specs.Reply.{HasStart, IsReadAs, IsUnread, IsWitnessReply, IsWitnessedReply}

@@ -14,7 +14,7 @@ use Rattle.sig_questions.specs.Rows.{certificate_row, message_row, point_row, pr
 use Rattle.sig_verify.specs.declared.link.Link.{Link}
 use Rattle.sig_verify.specs.declared.logged_entry.LoggedEntry.{LoggedEntry}
 use Rattle.sig_base.proofs.AcceptedRows.{as_row}
-use Rattle.sig_program.proofs.LogRowsSuffice.{AreAlike, alike-other, alike-reply}
+use Rattle.sig_program.proofs.SufficientLogRows.{AreAlike, alike-other, alike-reply}
 use Rattle.sig_request.proofs.RequestTexts.{one_request}
 use Rattle.sig_program.specs.Reply.{IsEntryIn, IsVerifiedReply}
 use Rattle.sig_program.specs.Suffice.{AgreeOnAsked, VerifyQuestionsSuffice, verify_with_accepted}

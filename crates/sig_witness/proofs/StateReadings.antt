@@ -17,7 +17,7 @@ use Rattle.sig_base.specs.declared.scheme.VerifyScheme.TheVariants as scheme
 use Rattle.sig_key.specs.Key.{key_info, key_scheme}
 use Rattle.sig_key.specs.declared.verification_key.CosignVerificationKey.{CosignVerificationKey}
 use Rattle.sig_key.specs.declared.verification_key.CosignVerificationKey.TheVariants as key
-use Rattle.sig_rekor.proofs.Graphic.{IsFreeOf, graphic-free, decimal-graphic, base64-graphic, base64-again}
+use Rattle.sig_rekor.proofs.GraphicTexts.{IsFreeOf, graphic-free, decimal-graphic, base64-graphic, base64-again}
 use Rattle.sig_audit.specs.declared.chain.ChainHead.{ChainHead}
 use Rattle.sig_witness.specs.declared.kept_log.KeptLog.{KeptLog}
 use Rattle.sig_witness.specs.declared.state_error.StateError.{StateError}

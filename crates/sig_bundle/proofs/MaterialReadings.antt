@@ -25,7 +25,7 @@ use Rattle.sig_bundle.specs.declared.material.VerificationMaterial.{Verification
 use Rattle.sig_dsse.specs.declared.envelope.DsseEnvelope.{DsseEnvelope}
 use Rattle.sig_dsse.specs.declared.envelope.DsseSignature.{DsseSignature}
 use Rattle.sig_bundle.proofs.FoundMembers.{found, found_option}
-use Rattle.sig_bundle.proofs.EntriesBack.{text_back}
+use Rattle.sig_bundle.proofs.EntryReadings.{text_back}
 use Rattle.sig_json.specs.Kinds.{bytes_of, text_of}
 use Rattle.sig_json.specs.Member.{list_each, optional, optional_or}
 

@@ -8,8 +8,8 @@ use Rattle.serde_json.specs.Data.{unsigned, negative, float, Data, null, boolean
 use Rattle.serde_json.specs.Data.{no_items, item, Members, no_members, member}
 use Rattle.serde_json.specs.Find.{get, at, get_member, get_item, as_object, as_number, as_integer}
 use Rattle.serde_json.specs.Written.{has_float, items_have_float, members_have_float}
-use Rattle.sig_json.proofs.ByKind.{as_object_is}
-use Rattle.sig_json.proofs.ByOrdering.{holds_of_choice}
+use Rattle.sig_json.proofs.ValueKinds.{as_object_is}
+use Rattle.sig_json.proofs.OrderingChoices.{holds_of_choice}
 
 -- where the value is there, it has no float
 abbrev pub FoundFloatless : Option Data → Type 0

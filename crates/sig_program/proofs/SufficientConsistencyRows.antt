@@ -3,7 +3,7 @@ use Rattle.std.proofs.Common.{◌↔◌, ℕ, List, Option, Some, None}
 use Rattle.sig_base.specs.declared.checker.AcceptedRow.{AcceptedRow}
 use Rattle.sig_verify.specs.declared.link.Link.{Link}
 use Rattle.sig_verify.specs.declared.link.Link.TheVariants.{Checkpoint, NoteKey, NoteMatch, Consistency as Grown}
-use Rattle.sig_program.proofs.LogRowsSuffice.{AreAlike, all-same, alike-other, alike-reply, note_key-same, some-same}
+use Rattle.sig_program.proofs.SufficientLogRows.{AreAlike, all-same, alike-other, alike-reply, note_key-same, some-same}
 use Rattle.sig_program.specs.ConsistencyLink.{HoldsOfConsistency}
 use Rattle.sig_program.specs.Reply.{IsConsistentReply}
 use Rattle.sig_program.specs.SecondLine.{IsFrontLine}

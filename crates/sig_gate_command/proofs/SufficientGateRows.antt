@@ -15,7 +15,7 @@ use Rattle.sig_gate.specs.BundleVerdict.{IsJudged, inputs, outside}
 use Rattle.sig_gate.specs.Gate.{AreVerified, IsDecided, IsVerified}
 use Rattle.sig_gate.specs.declared.verdict.BundleVerdict.{BundleVerdict}
 use Rattle.sig_gate.specs.declared.verdict.Verdict.{Verdict}
-use Rattle.sig_gate_command.proofs.LinksAgree.{every-link-same, judged-same}
+use Rattle.sig_gate_command.proofs.LinkAgreement.{every-link-same, judged-same}
 use Rattle.sig_gate_command.proofs.Replies.{manifest-reply, unread-reply, zip-weaker}
 use Rattle.sig_gate_command.proofs.Requests.{one_manifest}
 use Rattle.sig_gate_command.specs.Questions.{AsksFor, artifact_inputs, gate_inputs, inputs_in, inputs_of_all, inputs_under}
@@ -32,7 +32,7 @@ use Rattle.sig_questions.specs.Rows.{certificate_row, message_row, point_row, pr
 use Rattle.sig_reply.specs.declared.reply.Reply.{Reply}
 use Rattle.sig_verify.specs.Links.{Inputs}
 use Rattle.sig_verify.specs.declared.logged_entry.LoggedEntry.{LoggedEntry}
-use Rattle.sig_witness_command.proofs.EachOnce.{first-or-later, here, later}
+use Rattle.sig_witness_command.proofs.DistinctRows.{first-or-later, here, later}
 use Rattle.sig_questions.proofs.RowLaws.{empty_has}
 
 -- ---- the checkers of two lists that agree on what is asked

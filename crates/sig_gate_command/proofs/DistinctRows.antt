@@ -4,7 +4,7 @@ use Rattle.std.specs.Prelude.{Contains}
 use Rattle.sig_base.specs.declared.checker.AcceptedRow.{AcceptedRow}
 use Rattle.sig_gate_command.specs.Questions.{each_once}
 use Rattle.sig_questions.proofs.RowLaws.{empty_has}
-use Rattle.sig_witness_command.proofs.EachOnce.{absent-behind, once-different, once-has, once-only, once-parts, there-same}
+use Rattle.sig_witness_command.proofs.DistinctRows.{absent-behind, once-different, once-has, once-only, once-parts, there-same}
 use Rattle.sig_witness_command.specs.Suffice.{AreDifferent}
 
 -- each of them is there, and no other
