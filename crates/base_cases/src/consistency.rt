@@ -31,36 +31,6 @@ pub(crate) fn proof(arguments: &mut Arguments<'_>, answer: &mut Answer) {
     show(answer, proof_of(arguments.alloc(), &entries, old));
 }
 
-/// Two trees.
-#[derive(Clone, Copy)]
-struct Trees {
-    old_size: u64,
-    new_size: u64,
-    old_root: [u8; 32],
-    new_root: [u8; 32],
-}
-
-impl Trees {
-    /// The letter for what the check of these hashes returns.
-    fn letter(&self, hashes: &[[u8; 32]]) -> &'static str {
-        self.letter_at(self.old_size, self.new_size, hashes)
-    }
-
-    /// The same, of other sizes.
-    fn letter_at(&self, old_size: u64, new_size: u64, hashes: &[[u8; 32]]) -> &'static str {
-        match verify_consistency(old_size, new_size, hashes, &self.old_root, &self.new_root) {
-            Ok(()) => "k",
-            Err(MerkleProofError::MismatchedRoot { .. }) => "r",
-            Err(MerkleProofError::WrongProofSize { .. }) => "w",
-            Err(MerkleProofError::UnexpectedNonEmptyProof) => "f",
-            Err(MerkleProofError::UnexpectedEmptyProof) => "e",
-            Err(MerkleProofError::NewTreeSmaller { .. }) => "s",
-            Err(MerkleProofError::WrongEmptyTreeHash) => "h",
-            Err(MerkleProofError::IndexGtTreeSize) => "i",
-        }
-    }
-}
-
 /// `sweep OLD NEW`: of two trees of the entries `entry 0`, `entry 1` and so on, the hash of the proof's hashes, and a
 /// letter for what the check returns of the proof, of it with each hash changed, dropped and doubled, and of it with
 /// each size one less and one more.
@@ -97,6 +67,36 @@ pub(crate) fn push_numbered(
             }
         }
         Err(_) => answer.out_of_memory(),
+    }
+}
+
+/// Two trees.
+#[derive(Clone, Copy)]
+struct Trees {
+    old_size: u64,
+    new_size: u64,
+    old_root: [u8; 32],
+    new_root: [u8; 32],
+}
+
+impl Trees {
+    /// The letter for what the check of these hashes returns.
+    fn letter(&self, hashes: &[[u8; 32]]) -> &'static str {
+        self.letter_at(self.old_size, self.new_size, hashes)
+    }
+
+    /// The same, of other sizes.
+    fn letter_at(&self, old_size: u64, new_size: u64, hashes: &[[u8; 32]]) -> &'static str {
+        match verify_consistency(old_size, new_size, hashes, &self.old_root, &self.new_root) {
+            Ok(()) => "k",
+            Err(MerkleProofError::MismatchedRoot { .. }) => "r",
+            Err(MerkleProofError::WrongProofSize { .. }) => "w",
+            Err(MerkleProofError::UnexpectedNonEmptyProof) => "f",
+            Err(MerkleProofError::UnexpectedEmptyProof) => "e",
+            Err(MerkleProofError::NewTreeSmaller { .. }) => "s",
+            Err(MerkleProofError::WrongEmptyTreeHash) => "h",
+            Err(MerkleProofError::IndexGtTreeSize) => "i",
+        }
     }
 }
 

@@ -25,6 +25,18 @@ pub(crate) fn decomposed(arguments: &mut Arguments<'_>, answer: &mut Answer) {
     answer.value(&border);
 }
 
+/// `both_ways SIZE FIRST COUNT`: the digests of the roots of made-up paths for so many indices of a tree of this size.
+pub(crate) fn both_ways(arguments: &mut Arguments<'_>, answer: &mut Answer) {
+    let sweep = Sweep::read(arguments);
+    let mut roots = Roots::new(arguments.alloc());
+    if push_paths::<Brand>(&mut roots, Blank::new(1), &sweep).is_err() {
+        answer.out_of_memory();
+    }
+    answer.ok();
+    answer.hex(&sha256(&roots.walked));
+    answer.hex(&sha256(&roots.recursed));
+}
+
 /// Made-up proofs in a tree of this size, from an index or an older size up to another.
 #[derive(Clone, Copy)]
 struct Sweep {
@@ -76,18 +88,6 @@ impl Roots {
             recursed: Vec::new(alloc),
         }
     }
-}
-
-/// `both_ways SIZE FIRST COUNT`: the digests of the roots of made-up paths for so many indices of a tree of this size.
-pub(crate) fn both_ways(arguments: &mut Arguments<'_>, answer: &mut Answer) {
-    let sweep = Sweep::read(arguments);
-    let mut roots = Roots::new(arguments.alloc());
-    if push_paths::<Brand>(&mut roots, Blank::new(1), &sweep).is_err() {
-        answer.out_of_memory();
-    }
-    answer.ok();
-    answer.hex(&sha256(&roots.walked));
-    answer.hex(&sha256(&roots.recursed));
 }
 
 /// Adds the roots of all indices, on a ledger.

@@ -9,36 +9,6 @@ use sig_cases::{Answer, Arguments};
 use sig_json::Document;
 use std::alloc::Global;
 
-/// A document that is an object.
-#[derive(Drop)]
-struct BuiltObject {
-    document: Document,
-    ghost is_object: { IsSome (as_object (document_tree document)) },
-}
-
-#[tactic(auto, using(sig_json::proofs::StableKinds::staying))]
-impl BuiltObject {
-    /// Sets this member. Fails only if out of memory.
-    fn set(&mut self, alloc: Global, name: &str, value: Document) -> Result<(), OutOfMemory> {
-        self.document.insert(alloc, name, value)
-    }
-}
-
-/// A document that is a list.
-#[derive(Drop)]
-struct BuiltList {
-    document: Document,
-    ghost is_list: { IsSome (as_array (document_tree document)) },
-}
-
-#[tactic(auto, using(sig_json::proofs::StableKinds::staying))]
-impl BuiltList {
-    /// Adds this value. Fails only if out of memory.
-    fn push(&mut self, value: Document) -> Result<(), OutOfMemory> {
-        self.document.push(value)
-    }
-}
-
 /// `object NAME VALUE NAME VALUE ..`: the object in which these members are set in turn.
 pub(crate) fn object(arguments: &mut Arguments<'_>, answer: &mut Answer) {
     let alloc = arguments.alloc();
@@ -57,6 +27,21 @@ pub(crate) fn object(arguments: &mut Arguments<'_>, answer: &mut Answer) {
     }
     answer.ok();
     add_tree(alloc, answer, object.document.view());
+}
+
+/// A document that is an object.
+#[derive(Drop)]
+struct BuiltObject {
+    document: Document,
+    ghost is_object: { IsSome (as_object (document_tree document)) },
+}
+
+#[tactic(auto, using(sig_json::proofs::StableKinds::staying))]
+impl BuiltObject {
+    /// Sets this member. Fails only if out of memory.
+    fn set(&mut self, alloc: Global, name: &str, value: Document) -> Result<(), OutOfMemory> {
+        self.document.insert(alloc, name, value)
+    }
 }
 
 /// A value of the next two arguments: `integer` and an integer, or `text` or `json` and a text in percent-encoding.
@@ -108,4 +93,19 @@ pub(crate) fn list(arguments: &mut Arguments<'_>, answer: &mut Answer) {
     }
     answer.ok();
     add_tree(alloc, answer, list.document.view());
+}
+
+/// A document that is a list.
+#[derive(Drop)]
+struct BuiltList {
+    document: Document,
+    ghost is_list: { IsSome (as_array (document_tree document)) },
+}
+
+#[tactic(auto, using(sig_json::proofs::StableKinds::staying))]
+impl BuiltList {
+    /// Adds this value. Fails only if out of memory.
+    fn push(&mut self, value: Document) -> Result<(), OutOfMemory> {
+        self.document.push(value)
+    }
 }

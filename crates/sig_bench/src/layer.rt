@@ -42,14 +42,6 @@ pub fn of_promise(alloc: Global, promise: &[u8]) -> Option<u64> {
     made(alloc, payload.as_slice(), "c2ln", Some(promise))
 }
 
-/// The payload of a layer that nobody signed.
-fn unsigned_payload(alloc: Global) -> Option<Bytes> {
-    let unsigned = SignatureLayer::new_unsigned(alloc, "image", MANIFEST).ok()?;
-    let payload = Bytes::copy_of(alloc, unsigned.raw_data.as_slice());
-    drop(unsigned);
-    payload.ok()
-}
-
 /// Reads this text as the Sigstore bundle of the image whose manifest has the digest `source`, under a key of this log
 /// alone, and asks whether a key signed the layer. Returns 0 if it did, and 1 if the bundle is refused; `None` if out of
 /// memory.
@@ -72,6 +64,14 @@ pub fn of_bundle(alloc: Global, bundle: &[u8], source: &str, log: &str) -> Optio
 
 fn text_of(bytes: &[u8]) -> Option<&str> {
     std::str::from_utf8(bytes).ok()
+}
+
+/// The payload of a layer that nobody signed.
+fn unsigned_payload(alloc: Global) -> Option<Bytes> {
+    let unsigned = SignatureLayer::new_unsigned(alloc, "image", MANIFEST).ok()?;
+    let payload = Bytes::copy_of(alloc, unsigned.raw_data.as_slice());
+    drop(unsigned);
+    payload.ok()
 }
 
 /// Makes the layer of these bytes and annotations, and asks whether a key signed it.

@@ -10,28 +10,6 @@ use sig_base::{Bytes, OutOfMemory, OwnedList};
 use std::alloc::Global;
 use std::marker::Model;
 
-/// An entry in memory of its own. Contracts see the entry.
-#[derive(Drop)]
-struct BoxedEntry {
-    held: Box<TransparencyLogEntry>,
-}
-
-impl Model for BoxedEntry {
-    ghost use Rattle.sig_bundle.specs.declared.material.TransparencyLogEntry.{TransparencyLogEntry};
-
-    ghost Value = { TransparencyLogEntry };
-
-    ghost view = { λ b. b.held.value };
-}
-
-impl BoxedEntry {
-    fn get(&self) -> &TransparencyLogEntry
-        ensures { result.now ≡ self.now }
-    {
-        &self.held
-    }
-}
-
 /// What is held of an entry.
 #[derive(Drop)]
 enum Held {
@@ -58,6 +36,49 @@ impl Model for SparseEntry {
     ghost Value = { TransparencyLogEntry };
 
     ghost view = { λ s. whole s.held };
+}
+
+impl SparseEntry {
+    /// The same entry. Fails only if out of memory.
+    pub(crate) fn new(
+        alloc: Global,
+        entry: TransparencyLogEntry,
+    ) -> Result<SparseEntry, OutOfMemory>
+        ensures { IfOk result (λ sparse. sparse ≡ entry) }
+    {
+        if let Some(held) = held_small(alloc, &entry) {
+            drop(entry);
+            return Ok(SparseEntry { alloc, held });
+        }
+        let held = BoxedEntry {
+            held: Box::new(alloc, entry)?,
+        };
+        Ok(SparseEntry {
+            alloc,
+            held: Held::Whole(held),
+        })
+    }
+
+    /// The entry, if those of which nothing is held are at hand.
+    pub(crate) fn get<'a>(&'a self, small: &'a SmallEntries) -> &'a TransparencyLogEntry
+        ensures { result.now ≡ self.now }
+    {
+        match &self.held {
+            Held::WithoutMembers => &small.absent,
+            Held::EmptyId => &small.unnamed,
+            Held::Whole(entry) => entry.get(),
+        }
+    }
+}
+
+/// What is held of an entry of which that is nothing; `None` for every other entry.
+fn held_small(alloc: Global, entry: &TransparencyLogEntry) -> Option<Held>
+    ensures { IfSome result (λ held. whole held ≡ entry.now) }
+{
+    let small = SmallEntries::new(alloc);
+    let held = small.held_of(entry);
+    drop(small);
+    held
 }
 
 /// The entries of which nothing is held.
@@ -124,47 +145,26 @@ fn is_same(entry: &TransparencyLogEntry, other: &TransparencyLogEntry) -> bool
     *entry == *other
 }
 
-impl SparseEntry {
-    /// The same entry. Fails only if out of memory.
-    pub(crate) fn new(
-        alloc: Global,
-        entry: TransparencyLogEntry,
-    ) -> Result<SparseEntry, OutOfMemory>
-        ensures { IfOk result (λ sparse. sparse ≡ entry) }
-    {
-        if let Some(held) = held_small(alloc, &entry) {
-            drop(entry);
-            return Ok(SparseEntry { alloc, held });
-        }
-        let held = BoxedEntry {
-            held: Box::new(alloc, entry)?,
-        };
-        Ok(SparseEntry {
-            alloc,
-            held: Held::Whole(held),
-        })
-    }
-
-    /// The entry, if those of which nothing is held are at hand.
-    pub(crate) fn get<'a>(&'a self, small: &'a SmallEntries) -> &'a TransparencyLogEntry
-        ensures { result.now ≡ self.now }
-    {
-        match &self.held {
-            Held::WithoutMembers => &small.absent,
-            Held::EmptyId => &small.unnamed,
-            Held::Whole(entry) => entry.get(),
-        }
-    }
+/// An entry in memory of its own. Contracts see the entry.
+#[derive(Drop)]
+struct BoxedEntry {
+    held: Box<TransparencyLogEntry>,
 }
 
-/// What is held of an entry of which that is nothing; `None` for every other entry.
-fn held_small(alloc: Global, entry: &TransparencyLogEntry) -> Option<Held>
-    ensures { IfSome result (λ held. whole held ≡ entry.now) }
-{
-    let small = SmallEntries::new(alloc);
-    let held = small.held_of(entry);
-    drop(small);
-    held
+impl Model for BoxedEntry {
+    ghost use Rattle.sig_bundle.specs.declared.material.TransparencyLogEntry.{TransparencyLogEntry};
+
+    ghost Value = { TransparencyLogEntry };
+
+    ghost view = { λ b. b.held.value };
+}
+
+impl BoxedEntry {
+    fn get(&self) -> &TransparencyLogEntry
+        ensures { result.now ≡ self.now }
+    {
+        &self.held
+    }
 }
 
 impl PartialEq for SparseEntry {

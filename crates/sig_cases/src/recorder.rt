@@ -32,20 +32,6 @@ impl Recorder {
         }
     }
 
-    /// Keeps a question. That there is no memory for it is kept too.
-    fn keep(&self, key: &[u8], signature: &[u8]) {
-        let kept = match (
-            question_of(self.alloc, key, signature),
-            self.asked.try_borrow_mut(),
-        ) {
-            (Ok(question), Ok(mut asked)) => asked.push(question).is_ok(),
-            _ => false,
-        };
-        if !kept {
-            self.is_full.set(true);
-        }
-    }
-
     /// Adds the word `asked`, and how many questions there were.
     pub fn count_in(&self, answer: &mut Answer) {
         self.begin(answer);
@@ -81,13 +67,6 @@ impl Recorder {
             }
         }
     }
-}
-
-fn question_of(alloc: Global, key: &[u8], signature: &[u8]) -> Result<Question, AllocError> {
-    Ok(Question {
-        key: Vec::from_slice(alloc, key)?,
-        signature: Vec::from_slice(alloc, signature)?,
-    })
 }
 
 impl SignatureChecker for Recorder {
@@ -147,4 +126,27 @@ impl SignatureChecker for Recorder {
         self.table
             .verify_cert_signature(issuer_spki, algorithm, tbs, signature)
     }
+}
+
+impl Recorder {
+    /// Keeps a question. That there is no memory for it is kept too.
+    fn keep(&self, key: &[u8], signature: &[u8]) {
+        let kept = match (
+            question_of(self.alloc, key, signature),
+            self.asked.try_borrow_mut(),
+        ) {
+            (Ok(question), Ok(mut asked)) => asked.push(question).is_ok(),
+            _ => false,
+        };
+        if !kept {
+            self.is_full.set(true);
+        }
+    }
+}
+
+fn question_of(alloc: Global, key: &[u8], signature: &[u8]) -> Result<Question, AllocError> {
+    Ok(Question {
+        key: Vec::from_slice(alloc, key)?,
+        signature: Vec::from_slice(alloc, signature)?,
+    })
 }

@@ -141,22 +141,29 @@ impl ElementReader for DsseBodyReader {
     }
 }
 
-impl HashedPart {
-    /// Whether this is the SHA-256 of the bytes.
-    fn is_of(&self, bytes: &[u8]) -> bool
-        ensures { IsTrue result ↔ (self.now ≡ sha256_of bytes.now) }
-    {
-        let digest = sha256(bytes);
-        self.algorithm.as_str() == "sha256" && self.value == digest
-    }
-}
-
-impl BodySignature {
-    /// Whether this is the signature, and the text of the certificate.
-    fn is_of(&self, signature: &[u8], pem: &[u8]) -> bool
-        ensures { IsTrue result ↔ (self.now ≡ record { signature = signature.now; verifier = pem.now }) }
-    {
-        self.signature.as_slice() == signature && self.verifier.as_slice() == pem
+/// Whether the body of an entry is about an envelope of this text and payload, with this signature, which the
+/// certificate of this DER verifies: it is one of kind `dsse`, version 0.0.1, whose hashes are the SHA-256 of both, and
+/// whose first signature is this one. [`log_bodies`](crate::laws::log_bodies) says it member by member. Fails only if out
+/// of memory.
+#[tactic(auto, using(crate::proofs::DsseBodies::bodies))]
+pub fn is_about_envelope(
+    alloc: Global,
+    envelope: &[u8],
+    payload: &[u8],
+    signature: &[u8],
+    certificate: &[u8],
+    body: &[u8],
+) -> Result<bool, OutOfMemory>
+    ensures { IfOk result (λ about. IsTrue about ↔ (record_in dsse_body_of body.now
+        ≡ Ok (body_about envelope.now payload.now signature.now (pem_of certificate.now)))) }
+{
+    match read_body(alloc, body)? {
+        None => Ok(false),
+        Some(found) => {
+            let is_about = found.is_about_signed(alloc, envelope, payload, signature, certificate);
+            drop(found);
+            is_about
+        }
     }
 }
 
@@ -190,29 +197,22 @@ impl DsseBody {
     }
 }
 
-/// Whether the body of an entry is about an envelope of this text and payload, with this signature, which the
-/// certificate of this DER verifies: it is one of kind `dsse`, version 0.0.1, whose hashes are the SHA-256 of both, and
-/// whose first signature is this one. [`log_bodies`](crate::laws::log_bodies) says it member by member. Fails only if out
-/// of memory.
-#[tactic(auto, using(crate::proofs::DsseBodies::bodies))]
-pub fn is_about_envelope(
-    alloc: Global,
-    envelope: &[u8],
-    payload: &[u8],
-    signature: &[u8],
-    certificate: &[u8],
-    body: &[u8],
-) -> Result<bool, OutOfMemory>
-    ensures { IfOk result (λ about. IsTrue about ↔ (record_in dsse_body_of body.now
-        ≡ Ok (body_about envelope.now payload.now signature.now (pem_of certificate.now)))) }
-{
-    match read_body(alloc, body)? {
-        None => Ok(false),
-        Some(found) => {
-            let is_about = found.is_about_signed(alloc, envelope, payload, signature, certificate);
-            drop(found);
-            is_about
-        }
+impl HashedPart {
+    /// Whether this is the SHA-256 of the bytes.
+    fn is_of(&self, bytes: &[u8]) -> bool
+        ensures { IsTrue result ↔ (self.now ≡ sha256_of bytes.now) }
+    {
+        let digest = sha256(bytes);
+        self.algorithm.as_str() == "sha256" && self.value == digest
+    }
+}
+
+impl BodySignature {
+    /// Whether this is the signature, and the text of the certificate.
+    fn is_of(&self, signature: &[u8], pem: &[u8]) -> bool
+        ensures { IsTrue result ↔ (self.now ≡ record { signature = signature.now; verifier = pem.now }) }
+    {
+        self.signature.as_slice() == signature && self.verifier.as_slice() == pem
     }
 }
 

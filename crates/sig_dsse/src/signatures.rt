@@ -9,28 +9,6 @@ use sig_base::{Bytes, OutOfMemory, OwnedList, Text};
 use std::alloc::Global;
 use std::marker::Model;
 
-/// A signature in memory of its own. Contracts see the signature.
-#[derive(Drop)]
-struct BoxedSignature {
-    held: Box<DsseSignature>,
-}
-
-impl Model for BoxedSignature {
-    ghost use Rattle.sig_dsse.specs.declared.envelope.DsseSignature.{DsseSignature};
-
-    ghost Value = { DsseSignature };
-
-    ghost view = { λ b. b.held.value };
-}
-
-impl BoxedSignature {
-    fn get(&self) -> &DsseSignature
-        ensures { result.now ≡ self.now }
-    {
-        &self.held
-    }
-}
-
 /// A signature that takes memory of its own only where a part of it is not empty. Contracts see the signature.
 #[derive(Drop)]
 pub struct SparseSignature {
@@ -98,6 +76,28 @@ fn is_without_parts(alloc: Global, signature: &DsseSignature) -> bool
     let is_same = *signature == empty;
     drop(empty);
     is_same
+}
+
+/// A signature in memory of its own. Contracts see the signature.
+#[derive(Drop)]
+struct BoxedSignature {
+    held: Box<DsseSignature>,
+}
+
+impl Model for BoxedSignature {
+    ghost use Rattle.sig_dsse.specs.declared.envelope.DsseSignature.{DsseSignature};
+
+    ghost Value = { DsseSignature };
+
+    ghost view = { λ b. b.held.value };
+}
+
+impl BoxedSignature {
+    fn get(&self) -> &DsseSignature
+        ensures { result.now ≡ self.now }
+    {
+        &self.held
+    }
 }
 
 impl PartialEq for SparseSignature {

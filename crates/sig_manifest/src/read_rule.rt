@@ -34,22 +34,6 @@ pub enum Form {
     Not,
 }
 
-impl Form {
-    /// The member's name.
-    fn name(self) -> &'static str
-        ensures { result.now ≡ name_of self }
-    {
-        match self {
-            Form::Least => "least",
-            Form::Origin => "origin",
-            Form::Size => "size",
-            Form::All => "all",
-            Form::Any => "any",
-            Form::Not => "not",
-        }
-    }
-}
-
 /// The form of a rule. Fails with `Member` if not exactly one of the members is there.
 #[tactic(auto, unfolding(crate::specs::RuleTable::form_of))]
 pub fn form_of(json: Json<'_, '_>) -> Result<Form, MemberError>
@@ -85,6 +69,22 @@ fn form_there(form: Form, json: Json<'_, '_>) -> Option<Form>
     match value_of(json, form.name()) {
         Some(_) => Some(form),
         None => None,
+    }
+}
+
+impl Form {
+    /// The member's name.
+    fn name(self) -> &'static str
+        ensures { result.now ≡ name_of self }
+    {
+        match self {
+            Form::Least => "least",
+            Form::Origin => "origin",
+            Form::Size => "size",
+            Form::All => "all",
+            Form::Any => "any",
+            Form::Not => "not",
+        }
     }
 }
 

@@ -8,28 +8,6 @@ use sig_base::{Bytes, Entries, OutOfMemory};
 use std::alloc::Global;
 use std::marker::Model;
 
-/// An instance in memory of its own. Contracts see the instance.
-#[derive(Drop)]
-struct BoxedInstance {
-    held: Box<TransparencyLogInstance>,
-}
-
-impl Model for BoxedInstance {
-    ghost use Rattle.sig_root.specs.declared.record.TransparencyLogInstance.{TransparencyLogInstance};
-
-    ghost Value = { TransparencyLogInstance };
-
-    ghost view = { λ b. b.held.value };
-}
-
-impl BoxedInstance {
-    fn get(&self) -> &TransparencyLogInstance
-        ensures { result.now ≡ self.now }
-    {
-        &self.held
-    }
-}
-
 /// An instance of a log. Contracts see the instance.
 #[derive(Drop)]
 pub struct SparseInstance {
@@ -76,22 +54,22 @@ impl SparseInstance {
     }
 }
 
-/// An authority in memory of its own. Contracts see the authority.
+/// An instance in memory of its own. Contracts see the instance.
 #[derive(Drop)]
-struct BoxedAuthority {
-    held: Box<CertificateAuthority>,
+struct BoxedInstance {
+    held: Box<TransparencyLogInstance>,
 }
 
-impl Model for BoxedAuthority {
-    ghost use Rattle.sig_root.specs.declared.record.CertificateAuthority.{CertificateAuthority};
+impl Model for BoxedInstance {
+    ghost use Rattle.sig_root.specs.declared.record.TransparencyLogInstance.{TransparencyLogInstance};
 
-    ghost Value = { CertificateAuthority };
+    ghost Value = { TransparencyLogInstance };
 
     ghost view = { λ b. b.held.value };
 }
 
-impl BoxedAuthority {
-    fn get(&self) -> &CertificateAuthority
+impl BoxedInstance {
+    fn get(&self) -> &TransparencyLogInstance
         ensures { result.now ≡ self.now }
     {
         &self.held
@@ -144,5 +122,27 @@ impl SparseAuthority {
             Some(authority) => Some(authority.get()),
             None => None,
         }
+    }
+}
+
+/// An authority in memory of its own. Contracts see the authority.
+#[derive(Drop)]
+struct BoxedAuthority {
+    held: Box<CertificateAuthority>,
+}
+
+impl Model for BoxedAuthority {
+    ghost use Rattle.sig_root.specs.declared.record.CertificateAuthority.{CertificateAuthority};
+
+    ghost Value = { CertificateAuthority };
+
+    ghost view = { λ b. b.held.value };
+}
+
+impl BoxedAuthority {
+    fn get(&self) -> &CertificateAuthority
+        ensures { result.now ≡ self.now }
+    {
+        &self.held
     }
 }
