@@ -46,6 +46,7 @@ pub fn are_bytes(bytes: &[u8])
 pub fn are_owned_bytes(bytes: &Bytes)
     ensures { AreBytes bytes.now }
 {
+    // The slice is bytes.
     are_bytes(bytes.as_slice());
 }
 
@@ -54,6 +55,7 @@ pub fn are_optional_bytes(bytes: &Option<Bytes>)
     ensures { AreBytes (unwrap_or bytes.now []) }
 {
     match bytes {
+        // What is there is bytes.
         Some(bytes) => are_owned_bytes(bytes),
         None => (),
     }

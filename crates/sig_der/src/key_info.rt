@@ -59,6 +59,7 @@ pub fn read_algorithm(reader: Reader<'_>) -> Option<(AlgorithmPlaces, Reader<'_>
     ensures cut { algorithm_at (left reader.entry) ≡ option_map (algorithm_read reader.entry.bytes.now) result }
     ensures within { IfSome result (IsAlgorithmRead reader.entry) }
 {
+    // What is left to read is bytes.
     are_bytes(reader.rest());
     cut_algorithm(reader)
 }
@@ -136,6 +137,7 @@ pub fn read_key_info(reader: Reader<'_>) -> Option<(KeyInfoPlaces, Reader<'_>)>
     ensures cut { key_info_at (left reader.entry) ≡ option_map (key_info_read reader.entry.bytes.now) result }
     ensures within { IfSome result (IsKeyInfoRead reader.entry) }
 {
+    // What is left to read is bytes.
     are_bytes(reader.rest());
     cut_key_info(reader)
 }

@@ -10,5 +10,6 @@ pub fn gate_lists()
     ensures once { GateRowsAreEachOnce }
     ensures given_back { GateListsAreGivenBack }
 {
+    // The signatures that a bundle asks for decide which of its links hold.
     questions_suffice();
 }

@@ -34,6 +34,7 @@ impl<'a> Signature<'a> {
         // The same by the definition.
         ensures answer { Answers Memory (λ b. b) result (ok_or (signature_bytes self.now) Base64DecodeError) }
     {
+        // The signature is of bytes.
         self.is_of_bytes();
         self.decoded(alloc)
     }
@@ -44,6 +45,7 @@ impl<'a> Signature<'a> {
     {
         match self {
             Signature::Raw(_) => (),
+            // The text is bytes.
             Signature::Base64Encoded(text) => are_bytes(text),
         }
     }

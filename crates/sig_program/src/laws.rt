@@ -27,7 +27,7 @@ pub fn lists()
         × ListsAreGivenBack ConsistencyQuestions × ListsAreGivenBack AuditQuestions
         × ListsAreGivenBack WitnessQuestions × ListsAreGivenBack GateQuestions }
 {
-    // The same of `audit` and of `witness`, and what the questions of `verify` decide.
+    // The same of `audit`, `witness` and `gate`, and what the questions of `verify` decide.
     audit_lists();
     witness_lists();
     gate_lists();

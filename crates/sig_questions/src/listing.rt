@@ -243,6 +243,7 @@ fn list(
     ensures read { OnOk result (IsReadCertificate bundle.now) }
     ensures bytes { OnOk result (IsOfBytes trust.now.log_keys bundle.now.entry) }
 {
+    // The key of the certificate is bytes, and its SCTs are what the reader of SCTs says.
     is_read_certificate(bundle);
     let leaf = bundle.certificate();
     let anchors = trust.anchors.as_slice();

@@ -33,6 +33,7 @@ pub fn entries()
     ensures links { EntriesAreJudged }
     ensures kept { EntriesAreKept }
 {
+    // Which members an inclusion proof has, and what is refused of others.
     proofs();
     proof_faults();
 }
@@ -42,6 +43,7 @@ pub fn entries()
 pub fn causes_of_entry_errors()
     ensures { EntryErrorsHaveTheirCause }
 {
+    // Which members an inclusion proof has, and what is refused of others.
     proofs();
     proof_faults();
 }
@@ -51,6 +53,7 @@ pub fn causes_of_entry_errors()
 pub fn bundles()
     ensures { BundlesAreJudged }
 {
+    // Bytes are at most one certificate; what a bundle's own checks ask, and the cause of each refusal.
     certificates();
     passed_bundles();
     causes_of_refusals();
@@ -80,6 +83,7 @@ pub fn checked_bundles()
 pub fn verified_bundles()
     ensures { VerdictsAreJudged }
 {
+    // Bytes are at most one certificate; what a bundle's own checks ask, and say of the links.
     certificates();
     passed_bundles();
     bundles();
@@ -96,6 +100,8 @@ pub fn roots()
 pub fn outcomes()
     ensures { OutcomesAreJudged }
 {
+    // Bytes are at most one certificate; what a bundle's own checks ask, and say of the links; what the check of a
+    // trusted root says of them; and the members of an inclusion proof.
     certificates();
     passed_bundles();
     bundles();
@@ -109,6 +115,8 @@ pub fn outcomes()
 pub fn causes_of_errors()
     ensures { OfflineErrorsHaveTheirCause }
 {
+    // Bytes are at most one certificate; what a bundle's own checks ask, the cause of each refusal, and what they say of
+    // the links; what the check of a trusted root says of them; and the members of an inclusion proof.
     certificates();
     passed_bundles();
     causes_of_refusals();
@@ -124,6 +132,7 @@ pub fn is_entry_bytes(bundle: &Bundle)
 {
     match only_entry_of(bundle) {
         Some(entry) => {
+            // Both are bytes.
             are_owned_bytes(&entry.canonicalized_body);
             are_optional_bytes(&entry.log_id);
         }
