@@ -22,7 +22,7 @@ impl MemberTable for PromiseTable {
     }
 }
 
-/// The table of checkpoints.
+/// The table of the checkpoint of an inclusion proof: the text of the log's signed note.
 enum CheckpointTable {}
 
 impl MemberTable for CheckpointTable {
@@ -66,7 +66,7 @@ impl MemberTable for ProofTable {
     }
 }
 
-/// The table of entries.
+/// The table of a bundle's log entry. Every member of it may be absent.
 pub(crate) enum EntryTable {}
 
 impl MemberTable for EntryTable {

@@ -45,7 +45,7 @@ impl MemberTable for RangeTable {
     }
 }
 
-/// The table of authorities.
+/// The table of a certificate authority: its chain of certificates, and when it issues.
 enum AuthorityTable {}
 
 impl MemberTable for AuthorityTable {

@@ -231,7 +231,8 @@ fn list_checked(
     }
 }
 
-/// The rows.
+/// The rows of a bundle that passed its own checks, certificates first. Paths are looked for at the time from which the
+/// leaf is valid.
 fn list(
     alloc: Global,
     trust: &TrustParts,

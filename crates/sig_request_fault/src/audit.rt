@@ -20,7 +20,7 @@ use sig_table::{
 };
 use std::alloc::Global;
 
-/// The table of heads.
+/// The table of a head: its checkpoint, and the consistency proof from the head before.
 enum HeadTable {}
 
 impl MemberTable for HeadTable {

@@ -95,7 +95,7 @@ impl MemberTable for RulesTable {
     }
 }
 
-/// The table of policies.
+/// The table of a policy: at least one rule under `all` or under `any`, and nothing under the other.
 pub enum PolicyTable {}
 
 impl MemberTable for PolicyTable {

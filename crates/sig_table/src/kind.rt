@@ -16,7 +16,7 @@ pub struct ReadBy<R: ElementReader> {
     reader: PhantomData<R>,
 }
 
-/// The table of texts.
+/// The table of texts: every JSON string is one.
 pub type TextTable = ReadBy<TextReader>;
 
 /// The table of bytes written as padded standard base64 (RFC 4648 section 4).
