@@ -249,7 +249,7 @@ def moved():
     beside(HEADS, every, ENTRIES)
     for place, each in enumerate(every[::3]):
         audit(HEADS, [each._replace(head=(each.head + 1) % 4)])
-    TABLE.group("two leaves of a tree, joined, are no entry of it, and none of a tree of one")
+    TABLE.group("two leaves of a tree, joined, are not an entry of it, nor of a tree of one")
     two = head((b"a", b"b"))
     audit([two], [Watch(0, 0, [], leaf_hash(b"a") + leaf_hash(b"b"))])
     audit([two._replace(size=1)], [Watch(0, 0, [], leaf_hash(b"a") + leaf_hash(b"b"))])

@@ -59,7 +59,7 @@ def changed_case(line):
 def fixture_bundle():
     request = fixture.Request()
     bundle = compact(request.bundle(), canonical=True)
-    group("the fixture's bundle: its text is read back, it passes its checks, and it lends its parts")
+    group("the fixture's bundle: its text is read back, it passes its checks, and its parts are borrowed")
     case("read_bundle " + bundle, "ok " + bundle)
     case("try_from_bundle " + bundle, digests(["narrow", "wide", "narrow"]))
     case("checked " + bundle, " ".join([
@@ -215,7 +215,7 @@ def promises():
 
 def cut_leaves():
     """A certificate is one to its last byte, and no byte comes after it: the fixture's leaf is none where it is cut, at each byte, or has a byte more."""
-    group("the fixture's leaf cut at each byte, and with a byte behind it")
+    group("the fixture's leaf cut at each byte, and with a byte after it")
     leaf = fixture.Request().leaf_der
     for content in [leaf[:size] for size in range(len(leaf))] + [leaf + b"\0", leaf + leaf[-1:], leaf + leaf]:
         bundle = compact({"verificationMaterial": {"certificate": {"rawBytes": base64_of(content)}}})

@@ -76,7 +76,7 @@ def configs():
     say("client_config NOW TEXT: what the trusted root of a client's configuration has at a time. No JSON, no member, an empty root.")
     for text in ("x", "{}", '{"trustedRoot":{}}'):
         config(text)
-    say("The root of the fixture, by itself, behind another member and before one; of two the last.")
+    say("The root of the fixture, by itself, after another member and before one; of two the last.")
     for text in ("{}", '{"trustedRoot":%s}' % whole, '{"mediaType":1,"trustedRoot":%s}' % whole, '{"trustedRoot":%s,"signingConfig":{"a":[1,{}]}}' % whole,
                  '{"trustedRoot":{},"trustedRoot":%s}' % whole, '{"trustedRoot":%s,"trustedRoot":{}}' % whole, '{"trustedRoot":%s,"trustedRoot":null}' % whole,
                  '{"trusted\\u0052oot":%s}' % whole, ' { "trustedRoot" : %s } ' % whole, whole):
@@ -87,7 +87,7 @@ def configs():
     for tree in (verify_calls.HELD, verify_calls.BOTH):
         for now in (1672531199, 1672531200, 1704067199, 1704067200, 1800000000):
             config(compact({"trustedRoot": tree}), now)
-    say("Texts that are no object; then a trusted root of another kind, or null.")
+    say("Texts that are not an object; then a trusted root of another kind, or null.")
     for text in ("", " ", "null", "true", "1", "0.5", '"x"', "[]", "[{}]", "{", "{}x", '{"trustedRoot":{}', "\ufeff{}", '{"a":1.5}', '{"trustedRoot":{}, "a":1e3}',
                  '{"trustedRoot":null,"a":-0}', '{"a":0.5,"a":1}', '{"trustedRoot":{"a":0.5}}', '{"trustedRoot":{"a":0.5},"trustedRoot":{}}'):
         config(text)
@@ -215,7 +215,7 @@ def parts():
 
 
 def claims():
-    say("Payloads that are no object of claims: no JSON, no UTF-8, floats, other values.")
+    say("Payloads that are not an object of claims: not JSON, not UTF-8, floats, other values.")
     for content in (b"", b" ", b"x", b"\xff", b"null", b"true", b"1", b'"x"', b"[]", b"{}", b"[{}]", compact(CLAIMS).encode() + b"x", compact(CLAIMS).encode()[:-1],
                     b"\xef\xbb\xbf" + compact(CLAIMS).encode(), compact(CLAIMS).encode() + b"\xff"):
         token(of_claims(content))

@@ -235,7 +235,7 @@ def sizes():
 
 GROUPS = {"each link that fails, and what holds": links, "members of another kind, out of range, absent, doubled, null": members,
           "lists and objects nest to 127": nesting, "the largest logs": largest,
-          "the log's own entries: the list, other lists, what is no list of base64": lists, "logs of several sizes and their entries": sizes}
+          "the log's own entries: the list, other lists, what is not a list of base64": lists, "logs of several sizes and their entries": sizes}
 
 
 def examples():

@@ -345,7 +345,7 @@ def certificates():
     for change, bundle in itertools.product(({"signature": None}, {"signature": "%"}, {"signature": ""}, {"raw": b"x"}, {"signature": "c2l\nn"}), (None, "rekor:%d" % FIRST)):
         certificate(Layer(bundle=bundle, **change), Certified(chain=None))
     certificate(Layer(), Certified(chain=None), rows=[message_row(fixture.key(3))])
-    say("Chains: the anchor, others beside it, another alone, an empty one, what is no anchor, and an issuer that did not sign.")
+    say("Chains: the anchor, others beside it, another alone, an empty one, what is not an anchor, and an issuer that did not sign.")
     for chain in ((ANCHOR,), (OTHER, ANCHOR), (ANCHOR, OTHER), (OTHER,), (), (b"x",), (ANCHOR, b""), (BOUND,), (ANCHOR, BOUND, b"x"), (OTHER,) * 300 + (ANCHOR,)):
         certificate(Layer(), Certified(chain=chain))
     certificate(Layer(), Certified(), rows=[message_row(fixture.key(2))])

@@ -201,7 +201,7 @@ def signer_rows(table, payloads):
     for time in (1702446654, 1702446655, 1702447255, 1702447256, -2**53 + 1):
         bundle_row(table, payloads, Made(integrated_time=time))
         bundle_row(table, payloads, Made(told=[setting(lambda made: made.trust.__dict__, "now", time)]))
-    table.note("Bytes that are no certificate are logged as any others, and tell nobody.")
+    table.note("Bytes that are not a certificate are logged as any others, and tell nobody.")
     request = fixture.Request(payload=compact(Made().statement).encode())
     for der in (b"", request.leaf_der[:-1]):
         body = fixture.body_of(request.payload, request.signature, der)

@@ -75,7 +75,7 @@ ISSUERS = [
     ("of letters beyond ASCII", named(part("\u00e9\U0001f600".encode())), "CN=\u00e9\U0001f600"),
     ("of no UTF-8", named(part(b"\xff")), None), ("of a wide string", named(part(b"\x00a", tag=BMP)), None),
     ("of two attributes in one part", named(part(b"a") + part(b"b", "2.5.4.10")), None), ("of another type", named(part(b"a", "2.5.4.5")), None),
-    ("of an empty part", named([]), None), ("of an attribute with more behind it", named([der(SEQUENCE, der(OBJECT_IDENTIFIER, oid("2.5.4.3")),
+    ("of an empty part", named([]), None), ("of an attribute with more after it", named([der(SEQUENCE, der(OBJECT_IDENTIFIER, oid("2.5.4.3")),
      der(UTF8, b"a"), der(UTF8, b"b"))]), None),
     ("of an attribute without a value", named([der(SEQUENCE, der(OBJECT_IDENTIFIER, oid("2.5.4.3")))]), None),
     ("of 64 parts", named(*[part(b"a")] * 64), ",".join(["CN=a"] * 64)), ("of 65 parts", named(*[part(b"a")] * 65), None),

@@ -16,7 +16,7 @@ def certificates():
     yield row("what Fulcio's extensions say", {"certificate." + name: "the " + name for name in CLAIMS},
               held(others=b"".join(extension(FULCIO[name], b"the " + name.encode()) for name in CLAIMS)))
     yield row("an extension twice", {"certificate.ref": None, "link": "issuance"}, held(others=extension(FULCIO["ref"], b"a") * 2))
-    yield row("an extension that is no UTF-8", {"certificate.ref": None, "certificate.sha": ""},
+    yield row("an extension that is not UTF-8", {"certificate.ref": None, "certificate.sha": ""},
               held(others=extension(FULCIO["ref"], b"\xff") + extension(FULCIO["sha"], b"")))
     for serial in (b"\x00", b"\xff", b"\x00\x80", bytes(range(1, 21)), b"\x01" * 3000):
         yield row("a serial number of %d bytes" % len(serial), {"certificate.serialNumber": serial.hex()}, parts(leaf=leaf(serial=der(2, serial))))

@@ -72,7 +72,7 @@ def values():
 
 
 def texts():
-    TABLE.group("texts that are no JSON, hold a float, are of another value, or have members twice")
+    TABLE.group("texts that are not JSON, hold a float, are of another value, or have members twice")
     for text in ("", "{", spelled(manifest()) + "x", spelled(manifest())[:-1], "{'now':1}", '"\\ud800"'):
         case("NotJson", text)
     for tree in (manifest(now=1.5), manifest(other=[0.5]), manifest(artifact(rule={"least": 1.0})), manifest(now=2 ** 64), manifest(accepted=[1e3])):

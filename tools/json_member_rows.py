@@ -23,7 +23,7 @@ def members_of_names():
     for names in [[], ["k"], ["K"], ["kk"], [""], ["k\0"], ["\u00e9"], ["e\u0301"], ["k", "k"], ["x", "\u00e9", "k"]]:
         for text in ['{"k":1,"K":2,"kk":3,"":4,"k\\u0000":5}', '{"\\u006b":1,"x":2}', '{"k":1,"\\u006b":2}', '{"\\u006b":1,"k":2}', '{"\u00e9":1,"e\u0301":2,"\\u00e9":3}', '{"k":1.5,"\\u006b":2}', "{}"]:
             members_of_names_case(names, text)
-    say("What is no JSON is none wherever it stands, and any value but an object is kept whole.")
+    say("What is not JSON is so wherever it stands, and any value but an object is kept whole.")
     for text in STRUCTURES:
         members_of_names_case(["a"], text)
         members_of_names_case([], '{"x":%s,"a":1}' % text)

@@ -59,7 +59,7 @@ def texts():
     for text in STRINGS:
         for form in ["%s", "[%s,1]", "{%s:1}", '{"m":%s,"m":1}']:
             read_case(form % text)
-    say("Each control character in a string, as it is and by its escape, and each character of ASCII behind a backslash.")
+    say("Each control character in a string, as it is and by its escape, and each character of ASCII after a backslash.")
     for code in range(0x20):
         read_case(b'"' + bytes([code]) + b'"')
         read_case(b'{"a' + bytes([code]) + b'":1}')

@@ -411,11 +411,11 @@ def main():
 
         say("the first request, changed: each link that fails", map(changed, LINKS.splitlines()))
         say("its members: of another kind, out of range, absent, doubled, null", map(changed, MEMBERS.strip().splitlines()))
-        say("members that are ignored: floats in them, members of one name, what is no JSON, nesting", [*map(changed, IGNORED.strip().splitlines()), *NESTED])
-        say("the log's own entries: the list, another list, what is no list of base64", map(changed, ENTRIES.strip().splitlines()))
+        say("members that are ignored: floats in them, members of one name, what is not JSON, nesting", [*map(changed, IGNORED.strip().splitlines()), *NESTED])
+        say("the log's own entries: the list, another list, what is not a list of base64", map(changed, ENTRIES.strip().splitlines()))
         say("logs of several sizes and their entries", (json.dumps(found, separators=(",", ":")) for found in logs()))
         say("the largest logs", (json.dumps(found, separators=(",", ":")) for found in largest()))
-        say("texts that are no requests", TEXTS)
+        say("texts that are not requests", TEXTS)
         say("many signatures and rows, in the worst orders; equal rows; rows that differ in one part", (json.dumps(found, separators=(",", ":")) for found in tables()))
     entries = [b"L%d" % (123456 + number) for number in range(5)]
     example = json.dumps(of_log(json.loads(FIRST), 2, entries, entries), indent=2)

@@ -267,7 +267,7 @@ NOTE = f"log.example\n1\n{base64.b64encode(ROOT).decode()}\n"
 LINE = "\u2014 log.example AAAAAXNpZw==\n"
 ONE = NOTE + "\n" + LINE
 
-say("note TEXT: what Checkpoint::unmarshal reads. Go's checkpoint tests: a note, with empty lines behind it, with contents.")
+say("note TEXT: what Checkpoint::unmarshal reads. Go's checkpoint tests: a note, with empty lines after it, with contents.")
 case("note", "Log Checkpoint v0\n123\nAAAAAAAAAAAAAAAAAAAAAAAAAAAAAAAAAAAAAAAAAAA=\n", BANANA, BANANA + "\n\n\n", BANANA + "foo\nbar")
 case("note", BANANA + "foo\nTimestamp: 1689748607742585419: late\n", BANANA + "a: b: c\n:x\nk: \n: v\n: \na:b\n \n\nlast: line")
 say("Sizes: a plus sign and zeros, the largest below 2^64, and what is none.")
@@ -291,10 +291,10 @@ case("note", "", "\n", "\n\n", "o", "o\n", "o\n1", "o\n1\n")
 say("note_text TEXT: what is written of a note that was read.")
 case("note_text", BANANA, f"o\n+007\n{coded(32)}", f"o\n1\n{coded(32)}\n\nx: y: z\n\n\nlast", f" \u3000o\n{2**64 - 1}\n{coded(32)}\n: \n:\n")
 
-say("signature TEXT: what CheckpointSignature::decode reads. Names, newlines at both ends, and white space behind the base64.")
+say("signature TEXT: what CheckpointSignature::decode reads. Names, newlines at both ends, and white space after the base64.")
 for name in ("log.example.org", "815f6c60aab9", "https://log.example/path?q=1", "", "a+b", "\u2014", "a\tb"):
     case("signature", f"\u2014 {name} {coded(36)}\n", f"\n\n\u2014any {name} {coded(36)}\t\u00a0\u3000\n\n")
-say("The first part behind the dash is not looked at; newlines alone are trimmed.")
+say("The first part after the dash is not looked at; newlines alone are trimmed.")
 case("signature", f"\u2014\u2014 n {coded(4)}", f"\u2014x n {coded(4)}", f"\r\u2014 n {coded(4)}", f"\n \u2014 n {coded(4)}", f"\u2014 n {coded(4)}\r\n", f"\u2014\nn n {coded(4)}")
 for point in (0x2D, 0x2010, 0x2012, 0x2013, 0x2015, 0x2212, 0x2E3A, 0x0014, 0x94, 0x4E14):
     case("signature", f"{chr(point)} n {coded(4)}")
@@ -355,7 +355,7 @@ for size in (0, 1, 2, 2**64 - 1):
     for root in (ROOT, bytes(32), ROOT[:31] + bytes([ROOT[31] ^ 1]), bytes([ROOT[0] ^ 128]) + ROOT[1:]):
         tree(ONE, root, size)
     tree(EMPTY, hashlib.sha256(b"").digest(), size)
-say("borrowed_text TEXT: what Note::read and Note::marshal make of a note: without lines behind the hash, with some, and with empty ones.")
+say("borrowed_text TEXT: what Note::read and Note::marshal make of a note: without lines after the hash, with some, and with empty ones.")
 case("borrowed_text", BANANA, BANANA + "\n", BANANA + "foo", BANANA + "foo\n", BANANA + "\nfoo", BANANA + "foo\nk: v: w\n: ", BANANA + "foo\n\nk: v\n\n\nbar\n\n", "o")
 say("borrowed TEXT: what SignedNote::decode reads: the text that is signed, and each signature. Then its checks, as of signed and tree.")
 case("borrowed", ONE, BANANA + "foo\nk: v\n\n" + LINE + "\n" + LINE.replace("log", "witness"), "foo")

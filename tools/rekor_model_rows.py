@@ -349,7 +349,7 @@ for value in (None, "x", [], {}, 1):
     entry(entry_with(verification={"signedEntryTimestamp": "", "inclusionProof": value}))
 for value in ("x", {"dummy": 1}, {"dummy": []}):
     entry(small(PLAIN, attestation=value))
-say("Other members: refused in the entry, ignored in the objects within it. Texts that are no objects, and floats.")
+say("Other members: refused in the entry, ignored in the objects within it. Texts that are not objects, and floats.")
 entry(small(PLAIN, more=1))
 entry(small(PLAIN, kind=None))
 entry(small(dict(PLAIN, more=1)))

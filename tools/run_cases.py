@@ -226,7 +226,7 @@ def other_words():
     group("Both fail: the read comes first")
     run("log", FIRST, (64, 2), (1, 3, 256), LOGGED, 0)
     run("log", "", (1, 0), (1, 0, 0), REFUSED, 2)
-    group("Words that are no command, and those that `main` answers itself: nothing is read")
+    group("Words that are not a command, and those that `main` answers itself: nothing is read")
     for words in ("x", "--help", "--version", "log,log", "questions", "questions,questions", "questions,consistency,log", "audit,audit", "questions,audit,audit", "witness,witness", "Witness", "gate,gate", "Gate", "Audit", "Log", "log,", "explain",
                   "explain,explain", "explain,log,log", "log,explain", "explain,questions", "explain,questions,log", "questions,explain,log", "explain,demo",
                   "Explain,log", "explain,Log", "explain,"):

@@ -73,7 +73,7 @@ def rooted():
         of_bundle("at the start of 1970", "ok 1", now=0),
         of_bundle("a second before 1970", "ok 1", now=-1),
         of_bundle("no key of a log, which the bundle's own links do not ask for", "ok 0", log_keys=[]),
-        of_bundle("the trust anchor is no certificate", "CertificatePoolError(Anchor(0))", anchor=b"\x30\x00"),
+        of_bundle("the trust anchor is not a certificate", "CertificatePoolError(Anchor(0))", anchor=b"\x30\x00"),
         of_bundle("no key of a Certificate Transparency log", "Certificate(Sct(Verification(KeyNotFound)))", ct_keys=[]),
         of_bundle("another artifact", "Signature(SubjectDigestMismatch)", digest="sha256:" + "c" * 64),
         of_entry("under its log's key", "ok 2 5", log_keys),

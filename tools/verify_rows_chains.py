@@ -29,7 +29,7 @@ def intermediates():
     row("intermediates: with the trust anchor", "root-in-chain Bundle(RootInChain)", to_root(ONE, later=[certificate(ONE), certificate(anchor())]))
     row("intermediates: the leaf's signature is not accepted", FAILED, to_root(ONE), unaccepted(0))
     row("intermediates: its signature is not accepted", FAILED, to_root(ONE), unaccepted(5))
-    row("intermediates: behind the leaf again", "verified 2 5", to_root(ONE, later=[certificate(LEAF), certificate(ONE)]))
+    row("intermediates: after the leaf again", "verified 2 5", to_root(ONE, later=[certificate(LEAF), certificate(ONE)]))
 
 
 def longer_paths():

@@ -93,11 +93,11 @@ def scts():
             ("no list", held(list=b""), missing), ("a list of none", listed(sct_list()), missing), ("a list of two", listed(sct_list(sct(), sct())),
             missing),
             ("no octet string", listed(b""), malformed), ("a list that is cut", listed(der(OCTET_STRING, sct_list(sct())[2:-1])), malformed),
-            ("a byte behind the list", listed(der(OCTET_STRING, sct_list(sct())[2:] + b"\x00")), malformed),
+            ("a byte after the list", listed(der(OCTET_STRING, sct_list(sct())[2:] + b"\x00")), malformed),
             ("a list of no bytes", listed(der(OCTET_STRING)), malformed),
-            ("an element behind the list", listed(sct_list(sct()) + b"\x05\x00"), malformed), ("an SCT of no bytes", listed(sct_list(b"")),
+            ("an element after the list", listed(sct_list(sct()) + b"\x05\x00"), malformed), ("an SCT of no bytes", listed(sct_list(b"")),
             malformed),
-            ("an SCT that is cut", listed(sct_list(sct()[:-1])), malformed), ("a byte behind the SCT", listed(sct_list(sct() + b"\x00")), malformed),
+            ("an SCT that is cut", listed(sct_list(sct()[:-1])), malformed), ("a byte after the SCT", listed(sct_list(sct() + b"\x00")), malformed),
             ("another version", listed(sct_list(b"\x01" + sct()[1:])), malformed), ("two that are malformed", listed(sct_list(b"", b"")), missing),
             ("another log", listed(sct_list(sct(log=bytes(32)))), "sct Certificate(Sct(Verification(KeyNotFound)))"),
             ("the id that the trusted root has for the log", listed(sct_list(sct(log=fixture.CERTIFICATE_LOG_ID))),
@@ -179,7 +179,7 @@ def identities():
             ("in malformed names", names(der(0x81, b"user"), b"\x30\x00"), "ExtensionNotFound"), ("in no names", held(names=b""),
             "ExtensionNotFound")]:
         case("the identity is %s" % name, all_of(1, error), user, change)
-    case("an issuer that is no UTF-8", all_of(1, "ExtensionNotFound"), {"all": [{"issuer": "x"}]}, held(issued=extension(FULCIO["issuer"], b"\xff")))
+    case("an issuer that is not UTF-8", all_of(1, "ExtensionNotFound"), {"all": [{"issuer": "x"}]}, held(issued=extension(FULCIO["issuer"], b"\xff")))
     case("an issuer with quotation marks", all_of(1, 'ExtensionCheckFailed { extension: "OIDCIssuer", expected: "x", actual: "a\\"b" }'),
          {"all": [{"issuer": "x"}]},
          held(issued=extension(FULCIO["issuer"], b'a"b')))
@@ -295,7 +295,7 @@ def bodies():
             "payloadHash", "value"), lambda text: text + "00"),
             ("another signature first", ("spec", "signatures"), lambda listed: [{"signature": "", "verifier": ""}] + listed)]:
         row("body: another part: " + name, "body Signature(Transparency)", changed(path, value))
-    for name, path, value in [("hashes in upper case", ("spec", "envelopeHash", "value"), str.upper), ("another signature behind it", ("spec",
+    for name, path, value in [("hashes in upper case", ("spec", "envelopeHash", "value"), str.upper), ("another signature after it", ("spec",
                               "signatures"), lambda listed: listed + [{}]),
                               ("other members", ("other",), [1])]:
         row("body: " + name, "verified 2 5", changed(path, value))
@@ -342,12 +342,12 @@ def checkpoints():
             "-"), "NoDash"),
             ("two parts", text.replace("\u2014 fixture.log ", "\u2014 "), "SignatureFormat"),
             ("two lines joined", signed % "AAAABHg=" + own % "AAAABHg=", "SignatureFormat"),
-            ("a signature that is no base64", signed % "AAAABHg", "SignatureBase64"), ("three bytes", signed % "AAAA", "SignatureLength"),
+            ("a signature that is not base64", signed % "AAAABHg", "SignatureBase64"), ("three bytes", signed % "AAAA", "SignatureLength"),
             ("two lines of note", text.replace(lines[2] + "\n", ""), "NoteFormat"), ("a blank origin", text.replace("fixture.log\n5", " \n5"),
             "EmptyOrigin"),
             ("a size in letters", text.replace("\n5\n", "\nfive\n"), "Size"), ("a size of 65 bits", text.replace("\n5\n",
             "\n18446744073709551616\n"), "Size"),
-            ("a hash that is no base64", text.replace(lines[2], lines[2][:-1]), "HashBase64"),
+            ("a hash that is not base64", text.replace(lines[2], lines[2][:-1]), "HashBase64"),
             ("a hash of 31 bytes", text.replace(lines[2], base64_of(bytes(31))), "HashLength")]:
         row("checkpoint: " + name, "checkpoint ParseCheckpointError(%s)" % fault, bundle(CHECKPOINT, other))
     row("checkpoint: no signature", "note-key CheckpointSignatureVerificationError", bundle(CHECKPOINT, text.split("\n\n")[0] + "\n\n"))
@@ -356,7 +356,7 @@ def checkpoints():
 def checkpoint_forms():
     """Other texts of the same note and signature: the note is signed as it is written anew, and one signature that is accepted is enough."""
     own = "\u2014 fixture.log AAAABHg=\n"
-    for name, change in [("with a second signature behind it", lambda old: old + "\n" + own),
+    for name, change in [("with a second signature after it", lambda old: old + "\n" + own),
                          ("with another signature before it", lambda old: old.replace("\n\n", "\n\n" + own + "\n")),
                          ("with a plus sign", lambda old: old.replace("\n5\n", "\n+05\n"))]:
         row("checkpoint: " + name, "verified 2 5", bundle(CHECKPOINT, change))

@@ -31,7 +31,7 @@ def requests():
     for name, expected, other in [
             ("the smallest", READ, text), ("cut", UNREAD, text[:-1]), ("nothing", UNREAD, ""), ("a list", UNREAD, "[%s]" % text), ("null", UNREAD,
             "null"),
-            ("a text", UNREAD, '"verify"'), ("no member", UNREAD, "{}"), ("a byte behind it", UNREAD, text + "}"), ("blanks around it", READ,
+            ("a text", UNREAD, '"verify"'), ("no member", UNREAD, "{}"), ("a byte after it", UNREAD, text + "}"), ("blanks around it", READ,
             " %s " % text),
             ("a byte order mark", UNREAD, "\ufeff" + text), ("a float in an unknown member", UNREAD, '{"other":0.5,' + text[1:]),
             ("a doubled member, the last fits", READ, '{"now":"x",' + text[1:]),
@@ -136,7 +136,7 @@ def rows():
                           ("a certificate without a scheme", dict(operation="certificate", scheme=ABSENT)),
                           ("a certificate under a name", dict(operation="certificate", scheme="ED25519")), ("no key", dict(key=ABSENT)),
                           ("null for the key", dict(key=None)),
-                          ("a key that is no base64", dict(key="A")), ("no message", dict(message=ABSENT)), ("a message without padding",
+                          ("a key that is not base64", dict(key="A")), ("no message", dict(message=ABSENT)), ("a message without padding",
                           dict(message="AA")),
                           ("no signature", dict(signature=ABSENT)), ("a signature with bits left over", dict(signature="AB==")),
                           ("a number for the signature", dict(signature=1))]:
@@ -149,7 +149,7 @@ def trusted_roots():
     def read(name, expected, text):
         row("trusted root: " + name, "root-json Json(Root, %s)" % expected if expected else READ, request("trustedRoot", text))
     text = compact(fixture.Request().trusted_root())
-    for name, expected, other in [("nothing", "NotJson", ""), ("text behind it", "NotJson", text + "x"), ("a byte order mark", "NotJson",
+    for name, expected, other in [("nothing", "NotJson", ""), ("text after it", "NotJson", text + "x"), ("a byte order mark", "NotJson",
                                   "\ufeff" + text),
                                   ("half a surrogate pair", "NotJson", '{"other":"\\ud800"}'), ("too deep", "NotJson", "[" * 128 + "]" * 128),
                                   ("a number beyond all floats", "NotJson", '{"other":1e999}'), ("a float", "Float", '{"other":1.5}'),
@@ -186,7 +186,7 @@ def times(member):
                   "2023-01-01T00:00:00+00:60",
                   "2023-01-01T00:00:00+0000", "+2023-01-01T00:00:00Z", "2023-01-01T00:00:00Z ", 1672531200, {}, True):
         member("a start of %s" % compact(value), AUTHORITY + ".validFor", {"start": value})
-    member("an end that is no time", "tlogs.0.publicKey.validFor", {"end": "never"})
+    member("an end that is not a time", "tlogs.0.publicKey.validFor", {"end": "never"})
     row("trusted root: the 29th of February of a leap year", "verified 2 5", root(AUTHORITY + ".validFor", {"start": "2020-02-29T00:00:00Z"}))
 
 

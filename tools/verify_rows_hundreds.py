@@ -55,7 +55,7 @@ def anchors():
         root("certificateAuthorities", [chain(stranger)] * LAST + [chain(own)]))
     row("hundreds: trust anchors of one name, none of which issued it", "issuer Certificate(VerificationFailed)",
         root("certificateAuthorities", [chain(*[namesake] * COUNT)]))
-    row("hundreds: trust anchors, the last of which is no certificate", "anchor Anchor(%d)" % LAST,
+    row("hundreds: trust anchors, the last of which is not a certificate", "anchor Anchor(%d)" % LAST,
         root("certificateAuthorities", [chain(*[own] * LAST, b"\x30\x00")]))
     others = [certificate(anchor(key=numbered_key(9, place))) for place in range(LAST)]
     keys = [accepted_under(numbered_key(8, place)) for place in range(COUNT)]

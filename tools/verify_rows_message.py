@@ -87,12 +87,12 @@ def chains():
             "verified 2 5"),
             ("of 17", (other, intermediate) * 8, "verified 2 5"),
             ("of 18", (intermediate,) * 17, "certificate Bundle(TooManyCertificates(18))"),
-            ("of 18, the last of which is no certificate", (other,) * 16 + (NO_CERTIFICATE,), "certificate Bundle(TooManyCertificates(18))"),
+            ("of 18, the last of which is not a certificate", (other,) * 16 + (NO_CERTIFICATE,), "certificate Bundle(TooManyCertificates(18))"),
             ("with a root", (ROOT,), "root-in-chain Bundle(RootInChain)"),
             ("with a root at the end of three", (intermediate, ROOT), "root-in-chain Bundle(RootInChain)"),
-            ("with bytes behind the first", (NO_CERTIFICATE,), "certificate Bundle(CertificateMalformed(1))"),
+            ("with bytes after the first", (NO_CERTIFICATE,), "certificate Bundle(CertificateMalformed(1))"),
             ("with no bytes at the end of three", (other, b""), "certificate Bundle(CertificateMalformed(2))"),
-            ("with two that are no certificates", (NO_CERTIFICATE, b""), "certificate Bundle(CertificateMalformed(1))"),
+            ("with two that are not certificates", (NO_CERTIFICATE, b""), "certificate Bundle(CertificateMalformed(1))"),
             ("with a root before bytes", (ROOT, NO_CERTIFICATE), "certificate Bundle(CertificateMalformed(2))")]:
         row("chain: " + name, expected, in_chain(*later))
         row("chain, message: " + name, expected, message(later=later))

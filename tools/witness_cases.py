@@ -281,7 +281,7 @@ def faults():
     run([first, good], rows=start)
     for signatures in ((SIGNATURE, b"t"), (b"t", SIGNATURE), (b"t", b"u", b""), (b"t",) * 3 + (SIGNATURE,) * 2):
         run([first, good._replace(signatures=signatures)])
-    TABLE.group("old sizes: each but the kept one, before a good update and behind it")
+    TABLE.group("old sizes: each but the kept one, before a good update and after it")
     for old in (0, 4, 6, 12, 13, MOST):
         run([first, good._replace(old=old), good, good._replace(old=old)])
     TABLE.group("consistency: each error, and then the good update")

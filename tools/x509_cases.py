@@ -3,8 +3,8 @@
 
     tools/x509_cases.py
 
-The rows of x509_cases.txt state a change of the fixture leaf and the answer; fixture.py makes the bytes. x509_reader.py reads what a
-certificate lends a second time, and x509_graphs.py finds the issuer in a pool a second time.
+The rows of x509_cases.txt state a change of the fixture leaf and the answer; fixture.py makes the bytes. x509_reader.py reads what is
+borrowed from a certificate a second time, and x509_graphs.py finds the issuer in a pool a second time.
 """
 import re
 

@@ -144,7 +144,7 @@ def spelled_certificates(table):
 
 def further_rows(table):
     table.group("intermediates that come with the leaf: their indices count on from the pool's")
-    table.note("none; in the pool; with the leaf; behind one, and behind one that is no certificate, of the pool")
+    table.note("none; in the pool; with the leaf; after one, and after one that is not a certificate, of the pool")
     row(table, LEAF, [ROOT], [], [], "VerificationFailed")
     row(table, LEAF, [ROOT], ["ar19-."], [], "ok intermediate 0")
     row(table, LEAF, [ROOT], [], ["ar19-."], "ok intermediate 0")
@@ -208,7 +208,7 @@ def hundred_rows(table):
     table.note("of one name, each with a question about each: 300 times 301")
     row(table, LEAF, ["a9"], ["aa10-."] * 300, [], "VerificationFailed")
     row(table, LEAF, ["a9"], ["aa10-."] * 299 + ["aa19-."], [], "ok intermediate 299")
-    table.note("of which none is a certificate, but for the last")
+    table.note("of which none is a certificate, except the last")
     row(table, LEAF, [ROOT], ["?"] * 299 + ["ar19-."], [], "ok intermediate 299")
     table.note("a path of six, from the last one down, between others")
     words = ["zr59-."] * 300

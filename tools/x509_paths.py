@@ -159,9 +159,9 @@ def rows(group, case, listed, spelled):
         chain = [made(names[at], names[at + 1] if at + 1 < count else "fixture root", 10 + at) for at in range(count)]
         one("%d in a row" % count, "a", chain, expected)
     one("a cycle", "a", [made("a", "b", 5), made("b", "a", 6)], "VerificationFailed")
-    one("one that is no certificate keeps its index", "a", [None, a], "ok intermediate 1")
+    one("one that is not a certificate keeps its index", "a", [None, a], "ok intermediate 1")
     one("an unknown critical extension", "a", [made("a", "fixture root", 5, critical=b"*")], "VerificationFailed")
     one("expired", "a", [made("a", "fixture root", 5, last="230201000000Z")], "VerificationFailed")
     group("pools of too many intermediates")
     for count, expected in [(1024, "ok"), (1025, "TooMany(1025)")]:
-        case("%d that are no certificates" % count, "from_certificates %s %s" % (spelled(root_node().der), ",".join(["00"] * count)), expected)
+        case("%d that are not certificates" % count, "from_certificates %s %s" % (spelled(root_node().der), ",".join(["00"] * count)), expected)

@@ -1,4 +1,4 @@
-"""What a certificate lends, read a second time, in the plainest way, from RFC 5280 section 4.1 and X.690: each level is cut into its whole
+"""What is borrowed from a certificate, read a second time, in the plainest way, from RFC 5280 section 4.1 and X.690: each level is cut into its whole
 list of elements, and the list is compared with what it may be."""
 import calendar
 import re

@@ -173,7 +173,7 @@ def bits():
         change = "purposes=" + der(0x30, der(6, fixture.oid("1.3.6.1.5.5.7.3.%d" % number))).hex()
         judged_case("is_leaf")(name, "", change, "ok" if number == 3 else "Extension(BitUnset(ExtendedKeyUsageDigitalSignature))")
         judged_case("verify_key_usages")(name, "", change, "ok" if number == 3 else "CertificateWithoutCodeSigningKeyUsage")
-    group("each extension of Fulcio alone, by the number behind 1.3.6.1.4.1.57264.1, with every policy")
+    group("each extension of Fulcio alone, by the number after 1.3.6.1.4.1.57264.1, with every policy")
     names = ["OIDCIssuer", "GitHubWorkflowTrigger", "GitHubWorkflowSHA", "GitHubWorkflowName", "GitHubWorkflowRepository", "GitHubWorkflowRef"]
     for number in range(1, 10):
         held_alone = {name: b"" for name in leaf_extensions()}

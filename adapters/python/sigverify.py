@@ -38,7 +38,7 @@ GENUINE = os.path.join(HERE, "..", "openssl", "genuine.py")
 
 
 class NoReply(Exception):
-    """The library has no reply: for want of memory, or as it is another than this file is for."""
+    """The library has no reply: it is out of memory, or another than this file is for."""
 
 
 @functools.lru_cache(maxsize=None)

@@ -54,7 +54,7 @@ le_below Greater Less le e = absurd (omega arith)
 le_below Greater Equal le e = absurd (omega arith)
 le_below Greater Greater le e = absurd cc
 
--- an answer between the two places ties; none is before the first and behind the second
+-- an answer between the two places ties; none is before the first and after the second
 between : (o : Ordering) → is_lt o ≡ false → is_le o ≡ true → o ≡ Equal
 between Less low high = absurd cc
 between Equal low high = refl

@@ -6,7 +6,7 @@ ghost use Rattle.sig_base.specs.Checker.{key_at};
 use crate::checker::AcceptedRow;
 use std::marker::Model;
 
-/// The keys (SPKI, DER) of some rows of a table, which are lent. Contracts see the list of the keys.
+/// The keys (SPKI, DER) of some rows of a table, which are borrowed. Contracts see the list of the keys.
 #[derive(Drop)]
 pub struct KeyList<'a> {
     rows: &'a [AcceptedRow],

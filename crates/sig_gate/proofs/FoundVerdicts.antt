@@ -29,12 +29,12 @@ use Rattle.sig_verify.specs.declared.offline_error.OfflineError.{OfflineError}
 use Rattle.sig_verify.specs.declared.offline_error.OfflineError.TheVariants.{Json, OutOfMemory as Memory}
 use Rattle.sig_verify.specs.declared.offline_error.Part.TheVariants.{Root}
 
--- a value is not for want of memory
+-- a result that is a value is not `OutOfMemory`
 with_value : (entry : LoggedEntry) (P : Type 0) → UnlessMemory {X = LoggedEntry} Memory (Ok entry) P → P
 with_value entry P (inl memory) = cc
 with_value entry P (inr holds) = holds
 
--- an error with a link is not for want of memory
+-- an error that has a link is not `OutOfMemory`, which has none
 no_link : (link : Link) → ◌≡◌ {A = Option Link} None (Some link) → ⊥
 no_link link e = cc
 

@@ -92,7 +92,7 @@ behind_checks k trusted policy d offline b c passed result (inl memory) = inl me
 behind_checks k trusted policy d offline b c (inl wrong) result (inr is) = absurd cc
 behind_checks k trusted policy d offline b c (inr checked) result (inr is) = inr (inr (c, checked, is))
 
--- ---- the steps behind them, in order
+-- ---- the steps after them, in order
 
 module _ (k : Checker) (trusted : Trusted) (policy : PolicyOf) (d : ArtifactDigest) (offline : Bool) (c : Checked) where
   abbrev Verdict : Answer → Type 0

@@ -255,7 +255,7 @@ impl CertificatePool {
     }
 
     /// Returns the SubjectPublicKeyInfo (DER) of this trust anchor or intermediate of the pool. `None` if and only if
-    /// there is none at its index, or the intermediate there is no certificate.
+    /// there is none at its index, or the intermediate there is not a certificate.
     pub fn issuer_spki(&self, issuer: Issuer) -> Option<&[u8]>
         ensures { option_map (λ s. s.now) result ≡ option_map (λ c. c.spki) (certificate_of self.now issuer) }
     {
