@@ -15,6 +15,7 @@ use Rattle.sig_json_text.specs.declared.error.CanonicalError.TheVariants.{Intege
 use Rattle.sig_rekor.specs.Verify.{proof_answer}
 use Rattle.sig_rekor.specs.declared.inclusion_proof.InclusionProof.{InclusionProof}
 use Rattle.sig_verify.proofs.EntryProofs.{ProofLaws}
+use Rattle.sig_verify.proofs.EntrySteps.{included_is, logged}
 use Rattle.sig_verify.specs.ContentCheck.{AcceptsUnder}
 use Rattle.sig_verify.specs.EntryLinks.{OfProof}
 use Rattle.sig_verify.specs.LogEntry.{fields_answer, from_canonical, from_fields, from_proof, if_promised, included}
@@ -152,10 +153,11 @@ module _ (accepts : AcceptsUnder) (t : TransparencyLogEntry) where
 
     rest_tells : (proof : InclusionProof) → Tells (rest proof) (Ended proof) (Refused proof)
     rest_tells proof =
-        tells_ends (from_proof (proof_answer accepts t.canonicalized_body proof)) _
-        (record { body = t.canonicalized_body; proof = proof })
+        subst (λ (r : Result LoggedEntry OfflineError). Tells r (Ended proof) (Refused proof))
+        (sym (included_is accepts t proof))
+        (tells_ends (from_proof (proof_answer accepts t.canonicalized_body proof)) _ (logged t proof)
         (proof_answer accepts t.canonicalized_body proof ≡ Ok tt) (Refused proof) refl
-        (proof_by (proof_answer accepts t.canonicalized_body proof))
+        (proof_by (proof_answer accepts t.canonicalized_body proof)))
 
     abbrev IsShown : LoggedEntry → Type 0
     IsShown offline = OfProof t (λ p. OfRead p (λ proof. Ended proof offline))

@@ -1,6 +1,6 @@
 -- Which errors an entry has that a log does not vouch for.
 use Rattle.std.proofs.Common.{◌≡◌, ℕ, List, Bool, true, false, Option, Some, None, Result, Ok, Err, inl, inr}
-use Rattle.std.proofs.Common.{sym, subst}
+use Rattle.std.proofs.Common.{sym, subst, ◌∙◌}
 use Rattle.sig_base.proofs.ResultSteps.{bind_err, err_is}
 use Rattle.sig_base.specs.Answers.{OrMemory}
 use Rattle.sig_base.specs.declared.error.SigstoreError.{SigstoreError}
@@ -16,8 +16,9 @@ use Rattle.sig_json_text.specs.declared.error.CanonicalError.{CanonicalError}
 use Rattle.sig_json_text.specs.declared.error.CanonicalError.TheVariants as canonical
 use Rattle.sig_rekor.specs.Verify.{proof_answer}
 use Rattle.sig_rekor.specs.declared.inclusion_proof.InclusionProof.{InclusionProof}
+use Rattle.sig_verify.proofs.EntrySteps.{included_is}
 use Rattle.sig_verify.specs.ContentCheck.{AcceptsUnder}
-use Rattle.sig_verify.specs.LogEntry.{entry_inclusion_answer, fields_answer, from_canonical, from_fields, from_proof}
+use Rattle.sig_verify.specs.LogEntry.{fields_answer, from_canonical, from_fields, from_proof}
 use Rattle.sig_verify.specs.LogEntry.{if_promised, included, promise_answer, promised, vouched}
 use Rattle.sig_verify.specs.OfflineErrors.{of_canonical, of_fields, of_proof}
 use Rattle.sig_verify.specs.declared.offline_error.OfflineError.{OfflineError}
@@ -80,7 +81,8 @@ check_refusal (Err x) e told = named (of_proof x) e told (of_check x)
 included_refusal : (accepts : AcceptsUnder) (t : TransparencyLogEntry) (proof : InclusionProof) (e : OfflineError)
     → included accepts t proof ≡ Err e → IsLogRefusal e
 included_refusal accepts t proof e told =
-    elim (bind_err (entry_inclusion_answer accepts t.canonicalized_body proof) _ e told) [
+    elim (bind_err (from_proof (proof_answer accepts t.canonicalized_body proof)) _ e
+    (sym (included_is accepts t proof) ∙ told)) [
       | inl refused ↦ check_refusal (proof_answer accepts t.canonicalized_body proof) e refused
       | inr done ↦ absurd (let wrong = done.2 in cc)
     ]

@@ -34,13 +34,14 @@ use Rattle.sig_merkle.specs.Root.{leaf_of}
 use Rattle.sig_verify.proofs.EntryKeys.{key_again, key_has}
 use Rattle.sig_verify.proofs.EntryPromises.{judged_promise}
 use Rattle.sig_verify.proofs.EntryProofs.{ProofLaws, proof_taken}
+use Rattle.sig_verify.proofs.EntrySteps.{included_is, logged}
 use Rattle.sig_verify.specs.ContentCheck.{AcceptsSpki}
 use Rattle.sig_verify.specs.EntryCauses.{EntryErrorsHaveTheirCause, HasFault, HasRefusal, IsEntryCause, IsPromisedEntry}
 use Rattle.sig_verify.specs.EntryCauses.{OfFoundKey}
 use Rattle.sig_verify.specs.EntryLinks.{HasCanonicalPromise, HasLogKey, HoldsOfEntry, IsOfBytes, IsPromisedBy, LogKeys}
 use Rattle.sig_verify.specs.EntryLinks.{OfProof}
 use Rattle.sig_verify.specs.Judged.{Judged}
-use Rattle.sig_verify.specs.LogEntry.{entry_inclusion_answer, fields_answer, from_canonical, from_fields, from_kind}
+use Rattle.sig_verify.specs.LogEntry.{fields_answer, from_canonical, from_fields, from_kind}
 use Rattle.sig_verify.specs.LogEntry.{from_proof, if_promised, included, log_entry_answer, log_key_answer}
 use Rattle.sig_verify.specs.LogEntry.{promise_answer, promised, read_found, vouched}
 use Rattle.sig_verify.specs.OfflineErrors.{IsProofRefusal, of_fields, of_proof}
@@ -96,18 +97,22 @@ refused_three accepts body proof n carried why is =
     (subst (λ (o : Option SignedCheckpoint). and_then (checkpoint_answer accepts proof o)
     (inclusion_at proof.log_index body proof) ≡ Err why) carried is)
 
-some_note : (o found : Option SignedCheckpoint) → o ≡ found → IsSome o → (n : SignedCheckpoint) × (o ≡ Some n)
-some_note o None is some = absurd (let wrong : false ≡ true = sym (ap is_some is) ∙ some in cc)
-some_note o (Some n) is some = (n, is)
-
-pub refusal_of_proof : (accepts : List ℕ → List ℕ → Bool) (body : List ℕ) (proof : InclusionProof)
-    → IsSome proof.checkpoint → (why : SigstoreError)
-    → OrMemory sigstore.OutOfMemory why (proof_answer accepts body proof ≡ Err why)
+-- of each check
+pub note_key_refusal : (accepts : List ℕ → List ℕ → Bool) (n : SignedCheckpoint) (why : SigstoreError)
+    → OrMemory sigstore.OutOfMemory why (signed_answer accepts n ≡ Err why)
     → OrMemory sigstore.OutOfMemory why (IsProofRefusal why)
-refusal_of_proof accepts body proof some why (inl memory) = inl memory
-refusal_of_proof accepts body proof some why (inr told) =
-    let n = some_note proof.checkpoint proof.checkpoint refl some in
-    inr (refused_three accepts body proof n.0 n.1 why told)
+note_key_refusal accepts n why (inl memory) = inl memory
+note_key_refusal accepts n why (inr told) = inr (signed_three (has_accepted_signature accepts n) why told)
+
+pub note_match_refusal : (n : SignedCheckpoint) (root : List ℕ) (size : ℕ) (why : SigstoreError)
+    → Err why ≡ tree_answer n root size → OrMemory sigstore.OutOfMemory why (IsProofRefusal why)
+note_match_refusal n root size why told =
+    inr (tree_three (nat_lt size n.note.size) (nat_lt n.note.size size) (bytes_eq n.note.hash root) _ _ _ why
+    (sym told))
+
+pub audit_path_refusal : (body : List ℕ) (proof : InclusionProof) (why : SigstoreError)
+    → Err why ≡ inclusion_at proof.log_index body proof → OrMemory sigstore.OutOfMemory why (IsProofRefusal why)
+audit_path_refusal body proof why told = inr (at_three proof.log_index body proof why (sym told))
 
 -- ---- steps
 
@@ -260,7 +265,8 @@ module _ (laws : ProofLaws) (spki : AcceptsSpki) (keys : LogKeys) (e : Transpare
 
         included_caused : (why : OfflineError) → included (spki key.0 key.1) e proof ≡ Err why → Is why
         included_caused why told =
-            elim (bind_err (entry_inclusion_answer (spki key.0 key.1) e.canonicalized_body proof) _ why told) [
+            elim (bind_err (from_proof (proof_answer (spki key.0 key.1) e.canonicalized_body proof)) _ why
+            (sym (included_is (spki key.0 key.1) e proof) ∙ told)) [
               | inl refused ↦
                   refusal_caused (proof_answer (spki key.0 key.1) e.canonicalized_body proof) refl why refused
               | inr some ↦ absurd (let wrong = some.2 in cc)
@@ -342,8 +348,9 @@ module _ (laws : ProofLaws) (spki : AcceptsSpki) (keys : LogKeys) (e : Transpare
         past_promise holds (of_proof x) (after_ok (fields_answer e.inclusion_proof)
         (λ read. included (spki key.0 key.1) e read) proof
         (ap fields_answer is ∙ ap from_fields ((laws.proofs p proof).1 of))
-        ∙ after_err (entry_inclusion_answer (spki key.0 key.1) e.canonicalized_body proof)
-        (λ done. Ok (record { body = e.canonicalized_body; proof = proof })) (of_proof x) (ap from_proof said))
+        ∙ included_is (spki key.0 key.1) e proof
+        ∙ after_err (from_proof (proof_answer (spki key.0 key.1) e.canonicalized_body proof))
+        (λ done. Ok (logged e proof)) (of_proof x) (ap from_proof said))
 
   -- no key of the log
   unkeyed : (why : OfflineError) → log_key_answer keys e.log_id ≡ Err why → log_entry_answer spki keys e ≡ Err why

@@ -32,7 +32,6 @@ use Rattle.sig_verify.specs.EntryLinks.{LogKeys}
 use Rattle.sig_verify.specs.EntryLinks.{OfCheckpoint, OfPlace}
 use Rattle.sig_verify.specs.Judged.{Judged}
 use Rattle.sig_verify.specs.LogEntry.{from_proof}
-use Rattle.sig_verify.specs.LogEntry.{entry_inclusion_answer}
 use Rattle.sig_verify.specs.OfflineErrors.{link_of, of_proof}
 use Rattle.sig_verify.specs.declared.link.Link.{Link}
 use Rattle.sig_verify.specs.declared.link.Link.TheVariants.{NoteKey, NoteMatch, Inclusion}
@@ -191,7 +190,7 @@ module _ (spki : AcceptsSpki) (keys : LogKeys) (e : TransparencyLogEntry) (bytes
   -- ---- all three
 
   pub judged_path : Judged (HoldsOfEntry spki keys e) (NoteKey ∷ NoteMatch ∷ Inclusion ∷ [])
-      (entry_inclusion_answer (spki key.0 key.1) e.canonicalized_body proof)
+      (from_proof (proof_answer (spki key.0 key.1) e.canonicalized_body proof))
   unfolding proof_answer
   judged_path =
       subst (λ (o : Option SignedCheckpoint). Judged (HoldsOfEntry spki keys e) (NoteKey ∷ NoteMatch ∷ Inclusion ∷ [])

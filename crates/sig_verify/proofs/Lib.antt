@@ -12,6 +12,7 @@ pub mod EntryLaws
 pub mod EntryPaths
 pub mod EntryPromises
 pub mod EntryProofs
+pub mod EntrySteps
 pub mod IssuerVerdicts
 pub mod Issuers
 pub mod JudgedLaws

@@ -16,7 +16,8 @@ use Rattle.sig_bundle.specs.declared.proof_error.ProofFieldsError.{ProofFieldsEr
 use Rattle.sig_json_text.specs.Canonical.{canonical_of}
 use Rattle.sig_json_text.specs.declared.error.CanonicalError.{CanonicalError}
 use Rattle.sig_key.specs.Kind.{key_kind, kind_answer}
-use Rattle.sig_rekor.specs.Verify.{proof_answer}
+use Rattle.sig_rekor.specs.Verify.{inclusion_at, signed_answer, tree_answer}
+use Rattle.sig_rekor.specs.declared.checkpoint.SignedCheckpoint.{SignedCheckpoint}
 use Rattle.sig_rekor.specs.declared.inclusion_proof.InclusionProof.{InclusionProof}
 use Rattle.sig_verify.specs.ContentCheck.{AcceptsSpki, AcceptsUnder}
 use Rattle.sig_verify.specs.OfflineErrors.{of_canonical, of_fields, of_proof}
@@ -26,6 +27,7 @@ use Rattle.sig_verify.specs.declared.offline_error.OfflineError.TheVariants.{Log
 use Rattle.sig_verify.specs.declared.offline_error.OfflineError.TheVariants.{KeyParsingError}
 use Rattle.sig_verify.specs.declared.offline_error.OfflineError.TheVariants.{PublicKeyUnsupportedAlgorithmError}
 use Rattle.sig_verify.specs.declared.offline_error.OfflineError.TheVariants.{PromiseMissing, Promise, ProofMissing}
+use Rattle.sig_verify.specs.declared.offline_error.OfflineError.TheVariants.{CheckpointMissing}
 
 -- ---- the key of the log
 
@@ -94,17 +96,34 @@ abbrev pub from_proof : Result (Unit {0}) SigstoreError → Result (Unit {0}) Of
 from_proof (Ok done) = Ok done
 from_proof (Err error) = Err (of_proof error)
 
--- the key signed the checkpoint, which is of the proof's tree, and the path leads from the body to its root
-abbrev pub entry_inclusion_answer : AcceptsUnder → List ℕ → InclusionProof → Result (Unit {0}) OfflineError
-entry_inclusion_answer accepts body proof = from_proof (proof_answer accepts body proof)
+-- ---- the checkpoint and the audit path
+
+-- the key signed the checkpoint
+abbrev pub note_key_answer : AcceptsUnder → SignedCheckpoint → Result (Unit {0}) OfflineError
+note_key_answer accepts checkpoint = from_proof (signed_answer accepts checkpoint)
+
+-- which is of the proof's tree
+abbrev pub note_match_answer : SignedCheckpoint → InclusionProof → Result (Unit {0}) OfflineError
+note_match_answer checkpoint proof = from_proof (tree_answer checkpoint proof.root_hash proof.tree_size)
+
+-- and the path leads from the body to its root
+abbrev pub audit_path_answer : List ℕ → InclusionProof → Result (Unit {0}) OfflineError
+audit_path_answer body proof = from_proof (inclusion_at proof.log_index body proof)
 
 -- ---- all of them in order
 
--- the body with this proof, if the key vouches for it
-abbrev pub included : AcceptsUnder → TransparencyLogEntry → InclusionProof → Result LoggedEntry OfflineError
-included accepts entry proof = do
-  _ ← entry_inclusion_answer accepts entry.canonicalized_body proof
+-- the body with this proof, if the key vouches for it by this checkpoint
+abbrev pub included_by : AcceptsUnder → TransparencyLogEntry → InclusionProof → Option SignedCheckpoint
+    → Result LoggedEntry OfflineError
+included_by accepts entry proof None = Err CheckpointMissing
+included_by accepts entry proof (Some checkpoint) = do
+  _ ← note_key_answer accepts checkpoint
+  _ ← note_match_answer checkpoint proof
+  _ ← audit_path_answer entry.canonicalized_body proof
   Ok (record { body = entry.canonicalized_body; proof = proof })
+
+abbrev pub included : AcceptsUnder → TransparencyLogEntry → InclusionProof → Result LoggedEntry OfflineError
+included accepts entry proof = included_by accepts entry proof proof.checkpoint
 
 abbrev pub vouched : AcceptsUnder → TransparencyLogEntry → Result LoggedEntry OfflineError
 vouched accepts entry = do

@@ -6,10 +6,9 @@ ghost use Rattle.sig_key.specs.Kind.{key_parts};
 ghost use Rattle.sig_verify.specs.EntryLinks.{HasKeyOfBytes, HoldsOfEntry, entry_links};
 ghost use Rattle.sig_verify.specs.Judged.{Judged};
 ghost use Rattle.sig_verify.specs.LinkLaws.{IsKept};
-ghost use Rattle.sig_verify.specs.LogEntry.{log_entry_answer, fields_answer, id_answer};
-ghost use Rattle.sig_verify.specs.LogEntry.{entry_inclusion_answer};
-ghost use Rattle.sig_verify.specs.LogEntry.{log_key_answer};
-ghost use Rattle.sig_verify.specs.LogEntry.{borrowed_id, promise_answer, read_key, vouched};
+ghost use Rattle.sig_verify.specs.LogEntry.{borrowed_id, fields_answer, id_answer, log_entry_answer, log_key_answer};
+ghost use Rattle.sig_verify.specs.LogEntry.{audit_path_answer, note_key_answer, note_match_answer};
+ghost use Rattle.sig_verify.specs.LogEntry.{promise_answer, read_key, vouched};
 
 use crate::logged_entry::LoggedEntry;
 use crate::offline_error::{OfflineError, proof_error};
@@ -18,7 +17,7 @@ use sig_base::{Bytes, KeyMap, SignatureChecker, SigstoreError, Text};
 use sig_bundle::laws::{proof_faults, proofs};
 use sig_bundle::{ProofFields, TransparencyLogEntry, promise_text};
 use sig_key::CosignVerificationKey;
-use sig_rekor::InclusionProof;
+use sig_rekor::{InclusionProof, SignedCheckpoint};
 use std::alloc::Global;
 
 /// What the links of a log's entry need beside a key of the log: memory, the entry and the checker of signatures.
@@ -96,7 +95,12 @@ pub fn vouched<C: SignatureChecker>(
     };
     check_promise(&inputs, key)?;
     let proof = check_proof_and_checkpoint(alloc, &entry.inclusion_proof)?;
-    check_inclusion(&inputs, &proof, key)?;
+    let Some(checkpoint) = &proof.checkpoint else {
+        unreachable!()
+    };
+    check_note_key(&inputs, checkpoint, key)?;
+    check_note_match(checkpoint, &proof)?;
+    check_inclusion(entry, &proof)?;
     let body = entry.canonicalized_body.copy(alloc)?;
     Ok(LoggedEntry { body, proof })
 }
@@ -193,21 +197,40 @@ fn check_proof_and_checkpoint(
     }
 }
 
-/// The links `note-key`, `note-match` and `inclusion`: whether the key signed the proof's checkpoint, which is of the
-/// proof's tree, and the audit path leads from the entry's body to its root. The index is the proof's own. One call,
-/// since sig_rekor has none for the audit path alone.
-fn check_inclusion<C: SignatureChecker>(
+/// The link `note-key`: whether the key signed the checkpoint.
+fn check_note_key<C: SignatureChecker>(
     inputs: &EntryInputs<'_, C>,
-    proof: &InclusionProof,
+    checkpoint: &SignedCheckpoint,
     key: &CosignVerificationKey,
 ) -> Result<(), OfflineError>
-    requires { IsSome proof.now.checkpoint }
     ensures { Answers OfflineError.OutOfMemory (λ done. done) result
-        (entry_inclusion_answer (key_accepts (C.spki_accepts inputs.now.checker.now) key.now)
-        inputs.now.entry.now.canonicalized_body proof.now) }
+        (note_key_answer (key_accepts (C.spki_accepts inputs.now.checker.now) key.now) checkpoint.now) }
 {
-    let body = inputs.entry.canonicalized_body.as_slice();
-    match proof.verify(inputs.alloc, body, key, inputs.checker) {
+    match checkpoint.verify_signature(inputs.alloc, key, inputs.checker) {
+        Ok(()) => Ok(()),
+        Err(error) => Err(proof_error(error)),
+    }
+}
+
+/// The link `note-match`: whether the checkpoint is of the proof's tree.
+fn check_note_match(
+    checkpoint: &SignedCheckpoint,
+    proof: &InclusionProof,
+) -> Result<(), OfflineError>
+    ensures { result ≡ note_match_answer checkpoint.now proof.now }
+{
+    match checkpoint.is_valid_for_proof(&proof.root_hash, proof.tree_size) {
+        Ok(()) => Ok(()),
+        Err(error) => Err(proof_error(error)),
+    }
+}
+
+/// The link `inclusion`: whether the audit path leads from the entry's body to the proof's root. The index is the
+/// proof's own.
+fn check_inclusion(entry: &TransparencyLogEntry, proof: &InclusionProof) -> Result<(), OfflineError>
+    ensures { result ≡ audit_path_answer entry.now.canonicalized_body proof.now }
+{
+    match proof.verify_audit_path(entry.canonicalized_body.as_slice()) {
         Ok(()) => Ok(()),
         Err(error) => Err(proof_error(error)),
     }
