@@ -5,8 +5,11 @@ use Rattle.std.specs.List.{AllByRecursion}
 use Rattle.sig_bundle.specs.LogEntries.{only_entry}
 use Rattle.sig_bundle.specs.declared.bundle.Bundle.{Bundle as BundleType}
 use Rattle.sig_base.proofs.ResultSteps.{err_is, ok_is}
-use Rattle.sig_base.specs.Answers.{OrMemory, UnlessMemory}
+use Rattle.sig_base.specs.Answers.{Answers, OrMemory, UnlessMemory}
+use Rattle.sig_base.specs.ResultSteps.{◌>>=◌}
 use Rattle.sig_base.specs.declared.error.SigstoreError.{SigstoreError}
+use Rattle.sig_base.specs.declared.scheme.VerifyScheme.{VerifyScheme}
+use Rattle.sig_bundle.specs.declared.material.TransparencyLogEntry.{TransparencyLogEntry}
 use Rattle.sig_dsse.specs.declared.artifact_digest.ArtifactDigest.{ArtifactDigest}
 use Rattle.sig_json.specs.declared.error.JsonError.{JsonError}
 use Rattle.sig_json.specs.declared.error.JsonError.TheVariants as json
@@ -15,11 +18,13 @@ use Rattle.sig_root.specs.RootRecord.{trusted_root_in}
 use Rattle.sig_root.specs.declared.record.TrustedRoot.{TrustedRoot}
 use Rattle.sig_verify.specs.BundleLinks.{OfEntry, bundle_links}
 use Rattle.sig_verify.specs.CertificateLinks.{Trust as Given, certificate_links}
+use Rattle.sig_verify.specs.ContentCheck.{AcceptsSpki}
 use Rattle.sig_verify.specs.EntryLinks.{LogKeys}
 use Rattle.sig_verify.specs.HeldRoot.{IsGivenBy, IsHeldIn, IsHeldOf, IsOfflineUnder, IsTrustOf, IsVerdictUnder}
 use Rattle.sig_verify.specs.HeldRoot.{fault_error, from_fault, trust_answer}
 use Rattle.sig_verify.specs.Judged.{Judged}
 use Rattle.sig_verify.specs.LinkLaws.{HoldsOfVerified, renamed}
+use Rattle.sig_verify.specs.LogEntry.{log_key_answer, vouched}
 use Rattle.sig_verify.specs.OfflineErrors.{link_of, of_json, of_root, of_verification}
 use Rattle.sig_verify.specs.OfflineVerdict.{AfterAnswer, IsOfflineFrom, IsOfflineOf, IsVouchedIn, Outcome}
 use Rattle.sig_verify.specs.OfflineVerdict.{authorities_of, ct_keys_of, only_entry_among, only_entry_of}
@@ -33,6 +38,7 @@ use Rattle.sig_verify.specs.declared.held_root.RootFault.{RootFault}
 use Rattle.sig_verify.specs.declared.held_root.Trust.{Trust}
 use Rattle.sig_verify.specs.declared.link.Link.{Link}
 use Rattle.sig_verify.specs.declared.link.Link.TheVariants.{Entry}
+use Rattle.sig_verify.specs.declared.logged_entry.LoggedEntry.{LoggedEntry}
 use Rattle.sig_verify.specs.declared.offline_error.OfflineError.{OfflineError}
 use Rattle.sig_verify.specs.declared.offline_error.OfflineError.TheVariants.{OutOfMemory}
 use Rattle.sig_verify.specs.declared.offline_error.Part.TheVariants.{Root}
@@ -117,6 +123,27 @@ pub verdict_under : (k : Checker) (policy : PolicyOf) (trusted : Trusted) (d : A
     → UnlessMemory OutOfMemory result (IsVerdictUnder k policy trusted d b result)
 verdict_under k policy trusted d b answer result same (inl memory) = inl (same ∙ ap renamed memory)
 verdict_under k policy trusted d b answer result same (inr is) = inr (answer, is, same)
+
+-- ---- the links of the entry, of which the key is the first
+
+module _ (spki : AcceptsSpki) (keys : LogKeys) (b : BundleType) (entry : TransparencyLogEntry)
+    (only : only_entry_of b ≡ Some entry) where
+  abbrev Vouched : Outcome → Type 0
+  Vouched result = UnlessMemory OutOfMemory result (IsVouchedIn spki keys b result)
+
+  abbrev after : Result (VerifyScheme × List ℕ) OfflineError → Outcome
+  after found = found >>= λ key. vouched (spki key.0 key.1) entry
+
+  pub key_failed : (e : OfflineError) → OrMemory OutOfMemory e (log_key_answer keys entry.log_id ≡ Err e)
+      → Vouched (Err e)
+  key_failed e (inl memory) = inl (ap (λ (x : OfflineError). let r : Outcome = Err x in r) memory)
+  key_failed e (inr told) = inr (entry, only, sym (ap after told))
+
+  pub key_found : (key : VerifyScheme × List ℕ) → log_key_answer keys entry.log_id ≡ Ok key → (result : Outcome)
+      → Answers OutOfMemory (λ (o : LoggedEntry). o) result (vouched (spki key.0 key.1) entry) → Vouched result
+  key_found key is (Ok logged) told = inr (entry, only, sym (ap after is ∙ told))
+  key_found key is (Err e) (inl memory) = inl (ap (λ (x : OfflineError). let r : Outcome = Err x in r) memory)
+  key_found key is (Err e) (inr told) = inr (entry, only, sym (ap after is ∙ told))
 
 -- ---- the groups of links in order
 

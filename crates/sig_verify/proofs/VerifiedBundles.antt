@@ -2,6 +2,7 @@
 use Rattle.std.proofs.Common.{◌≡◌, ◌↔◌, ℕ, Bool, List, [], ◌∷◌, ◌++◌, Option, Ok, inl, inr, sym, ap, subst, ◌∙◌}
 use Rattle.sig_base.proofs.OptionSteps.{some_is}
 use Rattle.sig_base.proofs.ResultSteps.{ok_is}
+use Rattle.sig_base.specs.Answers.{UnlessMemory}
 use Rattle.sig_checked_bundle.proofs.Certificates.{OneCertificate, certificates_one}
 use Rattle.sig_checked_bundle.proofs.ContentLaws.{content-meant}
 use Rattle.sig_checked_bundle.specs.Checked.{Checked, IsChecked}
@@ -26,6 +27,7 @@ use Rattle.sig_verify.specs.LinkLaws.{BundlesAreJudged, HoldsOfVerified, IsReadC
 use Rattle.sig_verify.specs.LinkLaws.{trust_of}
 use Rattle.sig_verify.specs.Verdict.{Answer, Checker, IsVerdict, PolicyOf}
 use Rattle.sig_verify.specs.Verifier.{Trusted}
+use Rattle.sig_verify.specs.declared.error.VerificationError.TheVariants.{OutOfMemory}
 use Rattle.sig_verify.specs.declared.link.Link.{Link}
 
 -- the content of a bundle is kept in one way
@@ -106,6 +108,12 @@ module _ (one : OneCertificate) (passed : (b : Bundle) (c : Checked)
             (one_checked one b c holds.0 is holds.1) holds.2),
       )))
       (judged_trusted k policy trusted d offline c (read c is) result checked.2))
+
+  pub verdict_linked : (result : Answer)
+      → UnlessMemory OutOfMemory result (IsVerdict k trusted policy d offline b result)
+      → UnlessMemory OutOfMemory result (Judged Holds (bundle_links ++ certificate_links) (renamed result))
+  verdict_linked result (inl memory) = inl memory
+  verdict_linked result (inr is) = inr (judged_verdict result is)
 
   pub verdict_told : (result : Answer) → IsVerdict k trusted policy d offline b result
       → Tells Holds (bundle_links ++ certificate_links) (renamed result)

@@ -4,7 +4,7 @@ ghost use Rattle.sig_base.specs.Answers.{UnlessMemory};
 ghost use Rattle.sig_bundle.specs.BundleRecord.{bundle_in};
 ghost use Rattle.sig_verify.specs.HeldRoot.{IsHeldOf, IsOfflineUnder, IsVerdictUnder};
 ghost use Rattle.sig_verify.specs.OfflineLaws.{IsOfBundleOfBytes};
-ghost use Rattle.sig_verify.specs.OfflineVerdict.{AfterRead, IsOfflineOf, IsVouchedIn};
+ghost use Rattle.sig_verify.specs.OfflineVerdict.{AfterRead, IsOfflineOf};
 ghost use Rattle.sig_verify.specs.OfflineVerdict.{borrowed_entry, only_entry_of};
 ghost use Rattle.sig_verify.specs.Outcome.{GoesBySteps, KeepsEntry, ShowsFirstLink, inputs_of, outside_of};
 ghost use Rattle.sig_verify.specs.Verdict.{checker_of, policy_of};
@@ -13,7 +13,7 @@ ghost use Rattle.sig_verify.specs.declared.offline_error.Part.TheVariants.{Bundl
 use crate::held_root::{HeldRoot, Trust};
 use crate::laws::{is_entry_bytes, outcomes};
 use crate::link_inputs::LinkInputs;
-use crate::log_entry::verify_log_entry;
+use crate::log_entry::{check_log_key, vouched};
 use crate::logged_entry::LoggedEntry;
 use crate::offline_error::{OfflineError, Part, json_error, verification_error};
 use sig_base::SignatureChecker;
@@ -26,8 +26,8 @@ use std::alloc::Global;
 /// Checks every link of the chain of trust of a bundle for an artifact of this digest, at a time in whole seconds
 /// since 1970, and returns the log entry with its proof. The error is that of the first link that fails, in the order
 /// of [`Link`](crate::Link): those of the two texts, of [`Verifier::new`](crate::Verifier::new), of
-/// [`Verifier::verify_digest_with`](crate::Verifier::verify_digest_with) with `offline`, and of [`verify_log_entry`]
-/// under the keys of the root's logs at that time; or `OutOfMemory`.
+/// [`Verifier::verify_digest_with`](crate::Verifier::verify_digest_with) with `offline`, and of
+/// [`verify_log_entry`](crate::verify_log_entry) under the keys of the root's logs at that time; or `OutOfMemory`.
 /// [`causes_of_errors`](crate::laws::causes_of_errors) says each in the words of the inputs.
 pub fn verify_offline<P: VerificationPolicy, C: SignatureChecker>(
     alloc: Global,
@@ -49,8 +49,16 @@ pub fn verify_offline<P: VerificationPolicy, C: SignatureChecker>(
         (outside_of C.SignatureChecker checker.now P.VerificationPolicy policy.now)
         (inputs_of trusted_root.now now digest.now bundle.now) result }
 {
+    // What the steps mean, and the bytes that this needs.
+    outcomes();
     let held = HeldRoot::read(alloc, trusted_root, now)?;
-    held.verify(alloc, digest, bundle, policy, checker)
+    let inputs = LinkInputs {
+        alloc,
+        digest,
+        policy,
+        checker,
+    };
+    held.judge(bundle, &inputs)
 }
 
 /// Checks the links of [`verify_offline`] after `bundle-json`, of a trusted root and a bundle that were read; so a
@@ -152,7 +160,12 @@ impl HeldRoot {
     {
         let trust = self.check_root()?;
         trust.check_signed(bundle, inputs)?;
-        trust.check_logged(bundle, inputs)
+        // The links `log-key` to `inclusion`, of the bundle's only entry.
+        let Some(entry) = only_entry_of(bundle) else {
+            unreachable!()
+        };
+        let key = check_log_key(inputs.alloc, entry, &trust.log_keys)?;
+        vouched(inputs.alloc, entry, &key, inputs.checker)
     }
 }
 
@@ -169,33 +182,10 @@ impl Trust {
             self.now.verifier inputs.now.digest.now bundle.now result) }
         ensures logged { OnOk result (IsSome (only_entry_of bundle.now)) }
     {
-        match self.verifier.verify_digest_with(
-            inputs.alloc,
-            inputs.digest,
-            bundle,
-            inputs.policy,
-            true,
-            inputs.checker,
-        ) {
+        match self.verifier.judge_bundle(bundle, true, inputs) {
             Ok(()) => Ok(()),
             Err(error) => Err(verification_error(error)),
         }
-    }
-
-    /// The links `log-key` to `inclusion`, of the only entry of a bundle.
-    fn check_logged<P, C: SignatureChecker>(
-        &self,
-        bundle: &Bundle,
-        inputs: &LinkInputs<'_, P, C>,
-    ) -> Result<LoggedEntry, OfflineError>
-        requires { IsSome (only_entry_of bundle.now) }
-        ensures { UnlessMemory OfflineError.OutOfMemory result (IsVouchedIn
-            (C.spki_accepts inputs.now.checker.now) self.now.log_keys bundle.now result) }
-    {
-        let Some(entry) = only_entry_of(bundle) else {
-            unreachable!()
-        };
-        verify_log_entry(inputs.alloc, entry, &self.log_keys, inputs.checker)
     }
 }
 

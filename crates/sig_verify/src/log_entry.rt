@@ -120,7 +120,7 @@ fn judge_entry<C: SignatureChecker>(
 }
 
 /// The link `log-key`: the key of the entry's log.
-fn check_log_key(
+pub(crate) fn check_log_key(
     alloc: Global,
     entry: &TransparencyLogEntry,
     log_keys: &KeyMap,

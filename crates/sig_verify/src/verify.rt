@@ -57,11 +57,6 @@ impl Verifier {
             self.now (policy_of P.VerificationPolicy policy.now)
             input_digest.now offline bundle.now result) }
     {
-        // Bytes are at most one certificate, and the bundle's are bytes; what its own checks ask, and say of the links.
-        certificates();
-        passed_bundles();
-        bundles();
-        is_certificate_bytes(bundle);
         let inputs = LinkInputs {
             alloc,
             digest: input_digest,
@@ -72,17 +67,25 @@ impl Verifier {
     }
 
     /// The links `material` to `time`, in order.
-    fn judge_bundle<P: VerificationPolicy, C: SignatureChecker>(
+    pub(crate) fn judge_bundle<P: VerificationPolicy, C: SignatureChecker>(
         &self,
         bundle: &Bundle,
         offline: bool,
         inputs: &LinkInputs<'_, P, C>,
     ) -> VerificationResult
-        ensures { UnlessMemory VerificationError.OutOfMemory result (IsVerdict
+        ensures links { UnlessMemory VerificationError.OutOfMemory result (ShowsFirstOfBundle
+            (outside_of C.SignatureChecker inputs.now.checker.now P.VerificationPolicy inputs.now.policy.now)
+            self.now inputs.now.digest.now offline bundle.now result) }
+        ensures steps { UnlessMemory VerificationError.OutOfMemory result (IsVerdict
             (checker_of C.SignatureChecker inputs.now.checker.now)
             self.now (policy_of P.VerificationPolicy inputs.now.policy.now)
             inputs.now.digest.now offline bundle.now result) }
     {
+        // Bytes are at most one certificate, and the bundle's are bytes; what its own checks ask, and say of the links.
+        certificates();
+        passed_bundles();
+        bundles();
+        is_certificate_bytes(bundle);
         // The links `material` to `profile`: the bundle's own checks.
         let checked = CheckedBundle::try_from_bundle(inputs.alloc, bundle)?;
         self.judge_checked(&checked, offline, inputs)
