@@ -1,5 +1,5 @@
 //! The command `verify`: may this artifact be trusted, by this bundle?
-ghost use Rattle.std.specs.Prelude.{◌≡◌, ◌↔◌, ℕ, IfOk, List};
+ghost use Rattle.std.specs.Prelude.{◌≡◌, ◌↔◌, IfOk};
 ghost use Rattle.sig_base.specs.Answers.{UnlessMemory};
 ghost use Rattle.sig_verify.specs.Judged.{Judged};
 ghost use Rattle.sig_verify.specs.Links.{chain_links};
@@ -8,8 +8,6 @@ ghost use Rattle.sig_program.specs.Reply.{IsEntryIn, IsReply, IsVerifiedReply};
 ghost use Rattle.sig_program.specs.ProofOf.{IsProofOf};
 ghost use Rattle.sig_program.specs.VerifyLink.{HoldsOfVerify, IsOfflineOutcome, IsTrusted};
 ghost use Rattle.sig_program.specs.declared.command.Command.TheVariants.{Verify};
-ghost use Rattle.sig_request.specs.ReadFrom.{IsRequestOf};
-ghost use Rattle.sig_request.specs.VerifyRequest.{verify_request};
 
 use crate::reply::{refused, verified};
 use crate::second_line::second_line;
@@ -31,25 +29,17 @@ pub fn verify_reply(alloc: Global, request: &[u8]) -> Result<Reply, OutOfMemory>
     let Some(request) = VerifyRequest::read(alloc, request)? else {
         return refused(alloc, Link::Request);
     };
-    let reply = reply_to(alloc, &request);
-    drop(request);
-    reply
-}
-
-/// The reply to a request.
-fn reply_to(alloc: Global, request: &VerifyRequest) -> Result<Reply, OutOfMemory>
-    ensures { (text : List ℕ) → IsRequestOf verify_request text request.entry.now
-        → IfOk result (IsReply Verify text) }
-{
-    match verify_chain(alloc, request) {
-        Ok(offline) => {
-            let reply = verified_reply(alloc, request, &offline);
-            drop(offline);
+    match verify_chain(alloc, &request) {
+        Ok(logged) => {
+            let reply = verified_reply(alloc, &request, &logged);
+            drop(logged);
+            drop(request);
             reply
         }
         Err(error) => {
             let link = error.link();
             drop(error);
+            drop(request);
             match link {
                 Some(link) => refused(alloc, link),
                 // Only `OutOfMemory` belongs to no link.
