@@ -10,7 +10,6 @@ mod std_stream;
 mod words;
 
 use help::answer_of;
-use sig_base::Text;
 use sig_program::run::{FAULT, NO_MEMORY, USAGE, run};
 use std::process::ExitCode;
 use std_stream::{StdSink, StdSource};
@@ -20,25 +19,21 @@ use words::{WordsFault, words_of};
 const HINT: &str = "try 'sigverify --help'";
 
 fn main(rt: HostRuntime) -> ExitCode {
-    ExitCode::from(match words_of(&rt) {
-        Ok(words) => match answer_of(words.as_slice()) {
-            Some(text) => match rt.print(text) {
-                Ok(()) => 0,
-                Err(_) => FAULT,
-            },
-            None => run_over(&rt, words.as_slice()),
-        },
+    let words = match words_of(&rt) {
+        Ok(words) => words,
         // Words that are not a text are not a command.
-        Err(WordsFault::NotText) => run_over(&rt, &[]),
-        Err(WordsFault::OutOfMemory) => NO_MEMORY,
-    })
-}
-
-/// Runs over the standard streams. For words that are not a command a hint follows on standard error.
-fn run_over(rt: &HostRuntime, words: &[Text]) -> u8 {
+        Err(WordsFault::NotText) => Vec::new(rt.alloc()),
+        Err(WordsFault::OutOfMemory) => return ExitCode::from(NO_MEMORY),
+    };
+    if let Some(text) = answer_of(words.as_slice()) {
+        return ExitCode::from(match rt.print(text) {
+            Ok(()) => 0,
+            Err(_) => FAULT,
+        });
+    }
     let status = run(
         rt.alloc(),
-        words,
+        words.as_slice(),
         &mut StdSource::new(rt.stdin()),
         &mut StdSink::new(rt.stdout()),
     );
@@ -46,5 +41,5 @@ fn run_over(rt: &HostRuntime, words: &[Text]) -> u8 {
         // The status is the same where the hint could not be written.
         let _ = rt.eprintln(HINT);
     }
-    status
+    ExitCode::from(status)
 }
