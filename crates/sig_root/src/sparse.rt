@@ -1,5 +1,5 @@
 //! Authorities and instances of logs that take memory of their own only where they have a member. A trusted root of
-//! 2^24 bytes can have millions without one, each of which takes the room of a pointer here.
+//! 2^24 bytes can have millions without one, each of which takes the room of two pointers here.
 ghost use Rattle.std.specs.Prelude.{◌≡◌, IfOk, option_map};
 ghost use Rattle.sig_root.specs.Sparse.{whole_authority, whole_instance};
 
