@@ -7,23 +7,23 @@ use Rattle.std.proofs.lemmas.Bool.{eq-eqb, ne_eqb, and_from, and_right, and_part
 use Rattle.std.proofs.lemmas.List.{length-append, length-replicate, append-nil}
 use Rattle.sig_base.specs.ResultSteps.{◌>>=◌}
 use Rattle.sig_base.specs.declared.fault.DerError.{DerError}
-use Rattle.sig_base.specs.declared.fault.DerError.TheVariants.{Length, LongTag, Truncated, Trailing, WrongTag}
+use Rattle.sig_base.specs.declared.fault.DerError.TheVariants.{Length, LongTag, Truncated}
 use Rattle.sig_base.proofs.ResultSteps.{err_is, ok_is}
 use Rattle.sig_der.specs.Element.{element, spelled_length}
 use Rattle.sig_der.specs.Faults.{HasLongTag, IsBadLength, indefinite, five_octets, fits_short_form, leading_zero}
 use Rattle.sig_der.specs.Faults.{HasBadLength, IsCutElement}
-use Rattle.sig_der.specs.Reading.{Piece, one_byte, two_bytes, three_bytes, four_bytes, length_at, element_at, all_at}
+use Rattle.sig_der.specs.Reading.{Piece, one_byte, two_bytes, three_bytes, four_bytes, length_at, element_at}
 use Rattle.sig_der.specs.Reading.{is_small_first, is_zero_first, has_bad_length, fault_of}
 use Rattle.sig_der.proofs.Bytes.{IsBytes, IsBytes-tail}
 use Rattle.sig_der.proofs.Elements.{element_at_takes, element_at_again}
 use Rattle.sig_der.proofs.Faults.{Agrees, length_at_agrees, front_of_parts, element_at_fault}
 use Rattle.sig_der.proofs.Lengths.{length_at_takes}
 
-bind_of_err : {A B E : Type 0} (r : Result A E) (f : A → Result B E) (d : E) → r ≡ Err d → (r >>= f) ≡ Err d
+pub bind_of_err : {A B E : Type 0} (r : Result A E) (f : A → Result B E) (d : E) → r ≡ Err d → (r >>= f) ≡ Err d
 bind_of_err (Ok x) f d e = absurd cc
 bind_of_err {A = A} (Err x) f d e = let same : x ≡ d = err_is {A = A} x d e in rw same refl
 
-abbrev refused_front : DerError → Result (Piece × List ℕ) DerError
+abbrev pub refused_front : DerError → Result (Piece × List ℕ) DerError
 refused_front d = Err d
 
 abbrev refused_number : DerError → Result (ℕ × List ℕ) DerError
@@ -469,50 +469,3 @@ cut_at bytes fits h = by (element_at bytes) refl
         let len : length (x.1 ++ h.missing) ≡ 0 = ap (λ (w : List ℕ). length w) none in
         absurd (omega (arith, len, h.some, length-append x.1 h.missing))
     by (Err e) is = ap (λ (d : DerError). refused_front d) (element_at_fault bytes e is ∙ only_cut bytes h)
-
--- ---- all of the text as one element
-
--- a fault of the element is one of the whole, and the two others are not the element's
-own : (tag : ℕ) (bytes : List ℕ) (d : DerError) → d ≢ Trailing → d ≢ WrongTag → all_at tag bytes ≡ Err d
-    → element_at bytes ≡ Err d
-unfolding all_at
-own tag bytes d not_trailing not_wrong is = by (element_at bytes) is
-  where
-    by : (r : Result (Piece × List ℕ) DerError)
-        → (r >>= λ x. cond (eqb (length x.1) 0) (cond (eqb x.0.tag tag) (Ok x.0) (Err WrongTag)) (Err Trailing)) ≡ Err d
-        → r ≡ Err d
-    by (Err e) f = ap (λ (w : DerError). refused_front w) (err_is {A = Piece} e d f)
-    by (Ok x) f = absurd (elim (cases_Bool (eqb (length x.1) 0)) [
-      | inl none ↦ elim (cases_Bool (eqb x.0.tag tag)) [
-        | inl same ↦
-            let no = sym (cond-true (eqb (length x.1) 0) _ (Err Trailing) none
-            ∙ cond-true (eqb x.0.tag tag) (Ok x.0) (Err WrongTag) same) ∙ f in cc
-        | inr other ↦ not_wrong (sym (err_is {A = Piece} WrongTag d
-            (sym (cond-true (eqb (length x.1) 0) _ (Err Trailing) none
-            ∙ cond-false (eqb x.0.tag tag) (Ok x.0) (Err WrongTag) other) ∙ f)))
-      ]
-      | inr more ↦ not_trailing (sym (err_is {A = Piece} Trailing d
-          (sym (cond-false (eqb (length x.1) 0) _ (Err Trailing) more) ∙ f)))
-    ])
-
-whole_of : (tag : ℕ) (bytes : List ℕ) (d : DerError) → element_at bytes ≡ Err d → all_at tag bytes ≡ Err d
-unfolding all_at
-whole_of tag bytes d is = bind_of_err (element_at bytes) _ d is
-
-pub all_long_tag : (tag : ℕ) (bytes : List ℕ) → all_at tag bytes ≡ Err LongTag → HasLongTag bytes
-all_long_tag tag bytes is = long_tag_is bytes (own tag bytes LongTag (λ no. cc) (λ no. cc) is)
-
-pub all_bad_length : (tag : ℕ) (bytes : List ℕ) → all_at tag bytes ≡ Err Length → HasBadLength bytes
-all_bad_length tag bytes is = bad_length_is bytes (own tag bytes Length (λ no. cc) (λ no. cc) is)
-
-pub all_cut : (tag : ℕ) (bytes : List ℕ) → IsBytes bytes → all_at tag bytes ≡ Err Truncated → IsCutElement bytes
-all_cut tag bytes fits is = cut_is bytes fits (own tag bytes Truncated (λ no. cc) (λ no. cc) is)
-
-pub long_tag_all : (tag : ℕ) (bytes : List ℕ) → HasLongTag bytes → all_at tag bytes ≡ Err LongTag
-long_tag_all tag bytes h = whole_of tag bytes LongTag (long_tag_at bytes h)
-
-pub bad_length_all : (tag : ℕ) (bytes : List ℕ) → HasBadLength bytes → all_at tag bytes ≡ Err Length
-bad_length_all tag bytes h = whole_of tag bytes Length (bad_length_at bytes h)
-
-pub cut_all : (tag : ℕ) (bytes : List ℕ) → IsBytes bytes → IsCutElement bytes → all_at tag bytes ≡ Err Truncated
-cut_all tag bytes fits h = whole_of tag bytes Truncated (cut_at bytes fits h)

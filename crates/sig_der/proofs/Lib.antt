@@ -5,6 +5,7 @@ mod LengthForms
 pub mod Elements
 pub mod Faults
 pub mod Causes
+pub mod WholeCauses
 pub mod Ranges
 pub mod Takings
 pub mod ElementLists

@@ -1,5 +1,6 @@
 pub mod Trees
 pub mod OpenValues
+pub mod OpenTurns
 pub mod RemainingNames
 pub mod ReaderResults
 pub mod OrderedMembers

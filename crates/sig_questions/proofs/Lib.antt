@@ -20,6 +20,7 @@ pub mod LogKeyRows
 pub mod Trusts
 pub mod Calls
 pub mod Orderings
+pub mod LinkOrder
 pub mod OrderRows
 pub mod SeenRows
 mod Places

@@ -11,7 +11,7 @@ use Rattle.sig_der.proofs.Bytes.{IsBytes}
 use Rattle.sig_der.proofs.Steps.{gives_err, err_given}
 use Rattle.sig_der.proofs.Wholes.{all_at_takes, all_at_again, all_at_trailing, trailing_at, all_at_wrong_tag}
 use Rattle.sig_der.proofs.Wholes.{wrong_tag_at}
-use Rattle.sig_der.proofs.Causes.{all_long_tag, all_bad_length, all_cut, long_tag_all, bad_length_all, cut_all}
+use Rattle.sig_der.proofs.WholeCauses.{all_long_tag, all_bad_length, all_cut, long_tag_all, bad_length_all, cut_all}
 use Rattle.sig_der.proofs.element.read_all.Goals as goal
 
 found : (tag : ℕ) (bytes : List ℕ) → IsBytes bytes → (r : Result Element DerError)

@@ -1,7 +1,8 @@
 use Rattle.std.proofs.Common.{◌≡◌, ◌∷◌, ℕ, true, false, refl, ◌∙◌, subst, arith}
 use Rattle.std.proofs.lemmas.List.{length-replicate, length-set}
-use Rattle.sig_json.proofs.OpenValues.{ended, goes_on, key_fault, none_opens, opens, over_inner, over_last, too_deep}
+use Rattle.sig_json.proofs.OpenValues.{key_fault, none_opens, opens, over_inner, over_last, too_deep}
 use Rattle.sig_json.proofs.OpenValues.{value_fault, value_opened, whole_taken, float_taken}
+use Rattle.sig_json.proofs.OpenTurns.{ended, goes_on}
 use Rattle.sig_json.specs.Skipped.{BeginsValue, PassesValue, opening}
 use Rattle.sig_json.proofs.skip.skip_rest.Goals as goal
 
