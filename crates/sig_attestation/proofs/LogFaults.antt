@@ -155,7 +155,8 @@ module _ (accepts : AcceptsUnder) (t : TransparencyLogEntry) where
     rest_tells proof =
         subst (λ (r : Result LoggedEntry OfflineError). Tells r (Ended proof) (Refused proof))
         (sym (included_is accepts t proof))
-        (tells_ends (from_proof (proof_answer accepts t.canonicalized_body proof)) _ (logged t proof)
+        (tells_ends (from_proof (proof_answer accepts t.canonicalized_body proof))
+        (λ (done : Unit {0}). Ok (logged t proof)) (logged t proof)
         (proof_answer accepts t.canonicalized_body proof ≡ Ok tt) (Refused proof) refl
         (proof_by (proof_answer accepts t.canonicalized_body proof)))
 

@@ -16,7 +16,7 @@ use Rattle.sig_json_text.specs.declared.error.CanonicalError.{CanonicalError}
 use Rattle.sig_json_text.specs.declared.error.CanonicalError.TheVariants as canonical
 use Rattle.sig_rekor.specs.Verify.{proof_answer}
 use Rattle.sig_rekor.specs.declared.inclusion_proof.InclusionProof.{InclusionProof}
-use Rattle.sig_verify.proofs.EntrySteps.{included_is}
+use Rattle.sig_verify.proofs.EntrySteps.{included_is, logged}
 use Rattle.sig_verify.specs.ContentCheck.{AcceptsUnder}
 use Rattle.sig_verify.specs.LogEntry.{fields_answer, from_canonical, from_fields, from_proof}
 use Rattle.sig_verify.specs.LogEntry.{if_promised, included, promise_answer, promised, vouched}
@@ -81,7 +81,8 @@ check_refusal (Err x) e told = named (of_proof x) e told (of_check x)
 included_refusal : (accepts : AcceptsUnder) (t : TransparencyLogEntry) (proof : InclusionProof) (e : OfflineError)
     → included accepts t proof ≡ Err e → IsLogRefusal e
 included_refusal accepts t proof e told =
-    elim (bind_err (from_proof (proof_answer accepts t.canonicalized_body proof)) _ e
+    elim (bind_err (from_proof (proof_answer accepts t.canonicalized_body proof))
+    (λ (done : Unit {0}). Ok (logged t proof)) e
     (sym (included_is accepts t proof) ∙ told)) [
       | inl refused ↦ check_refusal (proof_answer accepts t.canonicalized_body proof) e refused
       | inr done ↦ absurd (let wrong = done.2 in cc)

@@ -105,13 +105,15 @@ note_key_refusal accepts n why (inl memory) = inl memory
 note_key_refusal accepts n why (inr told) = inr (signed_three (has_accepted_signature accepts n) why told)
 
 pub note_match_refusal : (n : SignedCheckpoint) (root : List ℕ) (size : ℕ) (why : SigstoreError)
-    → Err why ≡ tree_answer n root size → OrMemory sigstore.OutOfMemory why (IsProofRefusal why)
+    → ◌≡◌ {A = Result (Unit {0}) SigstoreError} (Err why) (tree_answer n root size)
+    → OrMemory sigstore.OutOfMemory why (IsProofRefusal why)
 note_match_refusal n root size why told =
     inr (tree_three (nat_lt size n.note.size) (nat_lt n.note.size size) (bytes_eq n.note.hash root) _ _ _ why
     (sym told))
 
 pub audit_path_refusal : (body : List ℕ) (proof : InclusionProof) (why : SigstoreError)
-    → Err why ≡ inclusion_at proof.log_index body proof → OrMemory sigstore.OutOfMemory why (IsProofRefusal why)
+    → ◌≡◌ {A = Result (Unit {0}) SigstoreError} (Err why) (inclusion_at proof.log_index body proof)
+    → OrMemory sigstore.OutOfMemory why (IsProofRefusal why)
 audit_path_refusal body proof why told = inr (at_three proof.log_index body proof why (sym told))
 
 -- ---- steps
@@ -265,7 +267,8 @@ module _ (laws : ProofLaws) (spki : AcceptsSpki) (keys : LogKeys) (e : Transpare
 
         included_caused : (why : OfflineError) → included (spki key.0 key.1) e proof ≡ Err why → Is why
         included_caused why told =
-            elim (bind_err (from_proof (proof_answer (spki key.0 key.1) e.canonicalized_body proof)) _ why
+            elim (bind_err (from_proof (proof_answer (spki key.0 key.1) e.canonicalized_body proof))
+            (λ (done : Unit {0}). Ok (logged e proof)) why
             (sym (included_is (spki key.0 key.1) e proof) ∙ told)) [
               | inl refused ↦
                   refusal_caused (proof_answer (spki key.0 key.1) e.canonicalized_body proof) refl why refused
@@ -350,7 +353,7 @@ module _ (laws : ProofLaws) (spki : AcceptsSpki) (keys : LogKeys) (e : Transpare
         (ap fields_answer is ∙ ap from_fields ((laws.proofs p proof).1 of))
         ∙ included_is (spki key.0 key.1) e proof
         ∙ after_err (from_proof (proof_answer (spki key.0 key.1) e.canonicalized_body proof))
-        (λ done. Ok (logged e proof)) (of_proof x) (ap from_proof said))
+        (λ (done : Unit {0}). Ok (logged e proof)) (of_proof x) (ap from_proof said))
 
   -- no key of the log
   unkeyed : (why : OfflineError) → log_key_answer keys e.log_id ≡ Err why → log_entry_answer spki keys e ≡ Err why

@@ -69,7 +69,8 @@ entry_kept proofs spki keys e offline answer =
     let a = bind_ok (log_key_answer keys e.log_id) _ offline answer in
     let b = bind_ok (promise_answer (spki a.0.0 a.0.1) e) _ offline a.2 in
     let c = bind_ok (fields_answer e.inclusion_proof) _ offline b.2 in
-    let d = bind_ok (from_proof (proof_answer (spki a.0.0 a.0.1) e.canonicalized_body c.0)) _ offline
+    let d = bind_ok (from_proof (proof_answer (spki a.0.0 a.0.1) e.canonicalized_body c.0))
+    (λ (done : Unit {0}). Ok (logged e c.0)) offline
     (sym (included_is (spki a.0.0 a.0.1) e c.0) ∙ c.2) in
     let is : logged e c.0 ≡ offline = ok_is _ offline d.2 in
     subst (λ (o : LoggedEntry). IsKept e o) is

@@ -24,7 +24,7 @@ use Rattle.sig_verify.specs.HeldRoot.{IsGivenBy, IsHeldIn, IsHeldOf, IsOfflineUn
 use Rattle.sig_verify.specs.HeldRoot.{fault_error, from_fault, trust_answer}
 use Rattle.sig_verify.specs.Judged.{Judged}
 use Rattle.sig_verify.specs.LinkLaws.{HoldsOfVerified, renamed}
-use Rattle.sig_verify.specs.LogEntry.{log_key_answer, vouched}
+use Rattle.sig_verify.specs.LogEntry.{log_key_answer, vouched as vouched_answer}
 use Rattle.sig_verify.specs.OfflineErrors.{link_of, of_json, of_root, of_verification}
 use Rattle.sig_verify.specs.OfflineVerdict.{AfterAnswer, IsOfflineFrom, IsOfflineOf, IsVouchedIn, Outcome}
 use Rattle.sig_verify.specs.OfflineVerdict.{authorities_of, ct_keys_of, only_entry_among, only_entry_of}
@@ -132,7 +132,7 @@ module _ (spki : AcceptsSpki) (keys : LogKeys) (b : BundleType) (entry : Transpa
   Vouched result = UnlessMemory OutOfMemory result (IsVouchedIn spki keys b result)
 
   abbrev after : Result (VerifyScheme × List ℕ) OfflineError → Outcome
-  after found = found >>= λ key. vouched (spki key.0 key.1) entry
+  after found = found >>= λ key. vouched_answer (spki key.0 key.1) entry
 
   pub key_failed : (e : OfflineError) → OrMemory OutOfMemory e (log_key_answer keys entry.log_id ≡ Err e)
       → Vouched (Err e)
@@ -140,7 +140,7 @@ module _ (spki : AcceptsSpki) (keys : LogKeys) (b : BundleType) (entry : Transpa
   key_failed e (inr told) = inr (entry, only, sym (ap after told))
 
   pub key_found : (key : VerifyScheme × List ℕ) → log_key_answer keys entry.log_id ≡ Ok key → (result : Outcome)
-      → Answers OutOfMemory (λ (o : LoggedEntry). o) result (vouched (spki key.0 key.1) entry) → Vouched result
+      → Answers OutOfMemory (λ (o : LoggedEntry). o) result (vouched_answer (spki key.0 key.1) entry) → Vouched result
   key_found key is (Ok logged) told = inr (entry, only, sym (ap after is ∙ told))
   key_found key is (Err e) (inl memory) = inl (ap (λ (x : OfflineError). let r : Outcome = Err x in r) memory)
   key_found key is (Err e) (inr told) = inr (entry, only, sym (ap after is ∙ told))
