@@ -36,16 +36,19 @@ pub fn verify_reply(alloc: Global, request: &[u8]) -> Result<Reply, OutOfMemory>
             drop(request);
             reply
         }
-        Err(error) => {
-            let link = error.link();
-            drop(error);
-            drop(request);
-            match link {
-                Some(link) => refused(alloc, link),
-                // Only `OutOfMemory` belongs to no link.
-                None => Err(OutOfMemory),
+        Err(error) => match error.link() {
+            Some(link) => {
+                drop(error);
+                drop(request);
+                refused(alloc, link)
             }
-        }
+            // Only `OutOfMemory` belongs to no link.
+            None => {
+                drop(error);
+                drop(request);
+                Err(OutOfMemory)
+            }
+        },
     }
 }
 

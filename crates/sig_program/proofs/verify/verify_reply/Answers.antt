@@ -1,6 +1,6 @@
 -- The reply to what was read, by what the chain of trust is; and all links of `verify` are the request and the trust
 -- chain.
-use Rattle.std.proofs.Common.{sym, ◌∙◌}
+use Rattle.std.proofs.Common.{sym}
 use Rattle.sig_program.proofs.Replies.{its-request, unread-replied}
 use Rattle.sig_program.proofs.VerifyChains.{all_verify_links_are_the_trust_chain}
 use Rattle.sig_program.proofs.VerifyReplies.{chain-included, refused-verify-replied, verified-replied}
@@ -24,12 +24,12 @@ returns-in-Ok-clause-reply c =
     c.in_ok-request.ensures)
     c.in-Ok.logged c.verified_reply-reply.ensures c.in-Ok.ensures.links c.in-Ok.ensures.kept
 
-pub returns-in-Some-clause-reply : goal.returns-in-Some-clause-reply
-returns-in-Some-clause-reply c =
-    refused-verify-replied c.args.request.now c.in-Some.request c.refused-in-Err.result
+pub returns-in-Some-link-clause-reply : goal.returns-in-Some-link-clause-reply
+returns-in-Some-link-clause-reply c =
+    refused-verify-replied c.args.request.now c.in-Some.request c.refused-in-Some-link.result
     (its-request verify_request c.args.request.now c.in_ok-request.field-0 c.in-Some.request c.in-Some.is
     c.in_ok-request.ensures)
-    c.in-Err.error c.in-Err-Some.link (sym c.link-link.ensures ∙ c.in-Err-Some.is) c.refused-in-Err.ensures
+    c.in-Err.error c.in-Some-link.link (sym c.in-Some-link.ensures) c.refused-in-Some-link.ensures
     c.in-Err.ensures.links
 
 pub returns-in_err-request-clause-chain : goal.returns-in_err-request-clause-chain
@@ -40,3 +40,9 @@ returns-in_default-clause-chain c = all_verify_links_are_the_trust_chain c.args.
 
 pub returns-in-Ok-clause-chain : goal.returns-in-Ok-clause-chain
 returns-in-Ok-clause-chain c = all_verify_links_are_the_trust_chain c.args.request.now
+
+pub returns-in-Some-link-clause-chain : goal.returns-in-Some-link-clause-chain
+returns-in-Some-link-clause-chain c = all_verify_links_are_the_trust_chain c.args.request.now
+
+pub returns-in-None-clause-chain : goal.returns-in-None-clause-chain
+returns-in-None-clause-chain c = all_verify_links_are_the_trust_chain c.args.request.now
