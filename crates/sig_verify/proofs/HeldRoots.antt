@@ -1,5 +1,5 @@
 -- What is held of a trusted root, and what each group of links says of the chain under it.
-use Rattle.std.proofs.Common.{◌≡◌, ℕ, ℤ, true, List, Result, Ok, Err, inl, inr, ap, sym, subst, ◌∙◌}
+use Rattle.std.proofs.Common.{◌≡◌, ℕ, ℤ, true, List, Some, Result, Ok, Err, inl, inr, ap, sym, subst, ◌∙◌}
 use Rattle.std.specs.Prelude.{◌⊎◌, ◌++◌, IsSome, is_some}
 use Rattle.std.specs.List.{AllByRecursion}
 use Rattle.sig_bundle.specs.LogEntries.{only_entry}
