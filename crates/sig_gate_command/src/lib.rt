@@ -9,9 +9,9 @@
 //! admitted 1 of 2
 //! ```
 //!
-//! The layer above uses three facts. [`gate_reply`] makes the reply that is defined: the report of the verdicts, or
-//! `refused request` if and only if the text is not a manifest. [`gate_questions`] lists the signatures that it can rest
-//! on, each once. And nothing but these matters.
+//! The layer above uses four facts. [`gate_reply`] makes the reply that is defined: the report of the verdicts, or
+//! `refused request` if and only if the text is not a manifest. [`report_reply`] makes it of verdicts that a caller has.
+//! [`gate_questions`] lists the signatures that the reply can rest on, each once. And nothing but these matters.
 #![tactic(auto)]
 
 pub mod laws;
@@ -22,5 +22,5 @@ mod row_list;
 mod rows;
 
 pub use questions::{MOST_ASKED, gate_questions};
-pub use reply::gate_reply;
+pub use reply::{gate_reply, report_reply};
 pub use request::GateRequest;

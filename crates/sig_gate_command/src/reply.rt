@@ -40,13 +40,18 @@ fn reply_to(alloc: Global, request: &GateRequest) -> Result<Reply, OutOfMemory>
     ensures { IfOk result (IsReportOf (parts_of request.entry.now)) }
 {
     let verdicts = gate(alloc, &request.manifest, &request.accepted)?;
-    let reply = reported(alloc, &request.manifest, &verdicts);
+    let reply = report_reply(alloc, &request.manifest, &verdicts);
     drop(verdicts);
     reply
 }
 
-/// The reply with these verdicts on the artifacts of a manifest.
-fn reported(alloc: Global, manifest: &Manifest, verdicts: &Verdicts) -> Result<Reply, OutOfMemory>
+/// Returns the reply with these verdicts on the artifacts of a manifest, one on each: their report, with status 0 if each
+/// artifact is admitted, else 1. Fails only if out of memory.
+pub fn report_reply(
+    alloc: Global,
+    manifest: &Manifest,
+    verdicts: &Verdicts,
+) -> Result<Reply, OutOfMemory>
     requires { length verdicts.now ≡ length manifest.now.artifacts }
     ensures { IfOk result (λ reply. reply ≡ reported (artifacts_view manifest.entry.now.artifacts) verdicts.now) }
 {

@@ -4,5 +4,5 @@ use Rattle.sig_gate_command.proofs.reply.reply_to.Goals as goal
 
 pub returns : goal.returns
 returns c =
-    report-made c.args.request.now c.in_ok-verdicts.verdicts c.reported-reply.result c.in_ok-verdicts.ensures.gate
-    c.reported-reply.ensures
+    report-made c.args.request.now c.in_ok-verdicts.verdicts c.report_reply-reply.result c.in_ok-verdicts.ensures.gate
+    c.report_reply-reply.ensures
