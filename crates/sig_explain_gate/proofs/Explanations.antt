@@ -6,17 +6,19 @@ use Rattle.sig_base.specs.OptionSteps.{or_else}
 use Rattle.sig_base.specs.declared.memory.OutOfMemory.{OutOfMemory}
 use Rattle.sig_explain_gate.specs.Artifact.{IsGateTree}
 use Rattle.sig_explain_gate.specs.GateExplanation.{IsGateExplanation, unread_tree}
+use Rattle.sig_explain_gate.specs.declared.explanation.ExplainedGate.{ExplainedGate}
 use Rattle.sig_explain_log.specs.Request.{request_tree}
-use Rattle.sig_gate_command.proofs.Replies.{its-manifest, long-manifest, no-manifest}
+use Rattle.sig_gate_command.proofs.Replies.{its-manifest, long-manifest, manifest-reply, no-manifest, unread-reply}
 use Rattle.sig_gate_command.proofs.Requests.{one_manifest}
+use Rattle.sig_gate_command.specs.Reply.{IsGateReply, IsReportOf}
 use Rattle.sig_gate_command.specs.Request.{IsGateText, IsReadFrom, IsUnread, parts_of}
 use Rattle.sig_gate_command.specs.declared.request.GateRequest.{GateRequest}
 use Rattle.sig_json.specs.Data.{Data}
 use Rattle.sig_json.specs.Tree.{document_tree}
-use Rattle.sig_json.specs.declared.document.Document.{Document}
 use Rattle.sig_manifest.specs.Read.{Parts, manifest_in}
 use Rattle.sig_manifest_fault.specs.ManifestFault.{manifest_fault_in, unknown_fault}
 use Rattle.sig_manifest_fault.specs.ManifestTable.{manifest_table}
+use Rattle.sig_reply.specs.Reply.{no_request}
 use Rattle.sig_request.specs.Limit.{most_bytes}
 use Rattle.sig_request_fault.specs.RequestFault.{request_fault_in}
 use Rattle.sig_request_fault.specs.declared.fault.RequestFault.{RequestFault}
@@ -39,23 +41,40 @@ unread-shown text tree none same = record {
   refused = λ _. same;
 }
 
--- the document of what was read
-pub manifest-explained : (text : List ℕ) (found : Option GateRequest) (request : GateRequest)
-    (r : Result Document OutOfMemory) → found ≡ Some request → IsReadFrom text found
-    → IfOk r (λ document. IsGateTree (parts_of request) (document_tree document))
-    → IfOk r (λ document. IsGateExplanation text (document_tree document))
-manifest-explained text found request r some read =
-    IfOk-weaker r (λ document. IsGateTree (parts_of request) (document_tree document))
-    (λ document. IsGateExplanation text (document_tree document))
-    (λ document. manifest-shown text (parts_of request) (document_tree document) (its-manifest text found request some read))
+-- ---- the reply and the document of what was read
 
-pub unread-explained : (text : List ℕ) (found : Option GateRequest) (r : Result Document OutOfMemory) → found ≡ None
-    → IsReadFrom text found → IfOk r (λ document. document_tree document ≡ unread_tree (manifest_fault_in text))
-    → IfOk r (λ document. IsGateExplanation text (document_tree document))
-unread-explained text found r none read =
-    IfOk-weaker r (λ document. document_tree document ≡ unread_tree (manifest_fault_in text))
-    (λ document. IsGateExplanation text (document_tree document))
-    (λ document. unread-shown text (document_tree document) (no-manifest text found none read))
+module _ (text : List ℕ) (found : Option GateRequest) (request : GateRequest) (r : Result ExplainedGate OutOfMemory)
+    (some : found ≡ Some request) (read : IsReadFrom text found) where
+  pub manifest-replied : IfOk r (λ explained. IsReportOf (parts_of request) explained.reply)
+      → IfOk r (λ explained. IsGateReply text explained.reply)
+  manifest-replied =
+      IfOk-weaker r (λ explained. IsReportOf (parts_of request) explained.reply)
+      (λ explained. IsGateReply text explained.reply)
+      (λ explained. manifest-reply text (parts_of request) explained.reply (its-manifest text found request some read))
+
+  pub manifest-explained : IfOk r (λ explained. IsGateTree (parts_of request) (document_tree explained.document))
+      → IfOk r (λ explained. IsGateExplanation text (document_tree explained.document))
+  manifest-explained =
+      IfOk-weaker r (λ explained. IsGateTree (parts_of request) (document_tree explained.document))
+      (λ explained. IsGateExplanation text (document_tree explained.document))
+      (λ explained. manifest-shown text (parts_of request) (document_tree explained.document)
+      (its-manifest text found request some read))
+
+module _ (text : List ℕ) (found : Option GateRequest) (r : Result ExplainedGate OutOfMemory) (none : found ≡ None)
+    (read : IsReadFrom text found) where
+  pub unread-replied : IfOk r (λ explained. explained.reply ≡ no_request)
+      → IfOk r (λ explained. IsGateReply text explained.reply)
+  unread-replied =
+      IfOk-weaker r (λ explained. explained.reply ≡ no_request) (λ explained. IsGateReply text explained.reply)
+      (λ explained. unread-reply text explained.reply (no-manifest text found none read))
+
+  pub unread-explained : IfOk r
+      (λ explained. document_tree explained.document ≡ unread_tree (manifest_fault_in text))
+      → IfOk r (λ explained. IsGateExplanation text (document_tree explained.document))
+  unread-explained =
+      IfOk-weaker r (λ explained. document_tree explained.document ≡ unread_tree (manifest_fault_in text))
+      (λ explained. IsGateExplanation text (document_tree explained.document))
+      (λ explained. unread-shown text (document_tree explained.document) (no-manifest text found none read))
 
 -- ---- a text that is too long
 

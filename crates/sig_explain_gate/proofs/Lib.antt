@@ -1,6 +1,6 @@
-pub mod Artifacts
 pub mod Bundles
 pub mod Explanations
-pub mod ReadNames
+pub mod FoundArtifacts
 pub mod OneDecision
 pub mod OneTree
+pub mod ReadNames

@@ -4,9 +4,11 @@ use Rattle.std.specs.List.{AllZip}
 use Rattle.sig_base.specs.ByText.{text_lookup}
 use Rattle.sig_json.specs.Writing.{list_tree, object_of}
 use Rattle.sig_explain_gate.specs.Bundle.{IsBundleShown}
+use Rattle.sig_explain_gate.specs.declared.artifact.ArtifactFinding.{ArtifactFinding}
 use Rattle.sig_explain_gate.specs.declared.artifact.Findings.{Findings}
+use Rattle.sig_explain_gate.specs.declared.artifacts.ArtifactFindings.{ArtifactFindings}
 use Rattle.sig_explain_verify.specs.Inputs.{Inputs as Explained}
-use Rattle.sig_gate.specs.Gate.{IsDecided}
+use Rattle.sig_gate.specs.Gate.{IsDecided, IsGate, IsVerdict}
 use Rattle.sig_gate.specs.BundleVerdict.{IsBundleVerdict}
 use Rattle.sig_gate.specs.declared.verdict.BundleVerdict.{BundleVerdict}
 use Rattle.sig_gate_command.specs.Reply.{checker_with}
@@ -88,3 +90,13 @@ pub record AreFound (parts : Parts) (x : Asked) (bundles : List (List ℕ)) (fou
   pub trees : List Data
   pub shown : AllZip (IsBundleTree parts x) bundles trees
   pub made : document_tree found.list ≡ trees_list trees
+
+-- the verdict on an artifact, and what is shown of it
+pub record IsArtifactFound (parts : Parts) (x : Asked) (found : ArtifactFinding) : Type 0 where
+  pub verdict : IsVerdict (checker_with parts.1) parts.0 x found.verdict
+  pub shown : IsArtifactTree parts x (document_tree found.document)
+
+-- the verdicts on all artifacts of a manifest, and the list of what is shown of each
+pub record AreArtifactsFound (parts : Parts) (found : ArtifactFindings) : Type 0 where
+  pub verdicts : IsGate (checker_with parts.1) parts.0 found.verdicts
+  pub shown : IsListOf parts parts.0.artifacts (document_tree found.list)

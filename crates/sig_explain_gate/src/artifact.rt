@@ -1,7 +1,7 @@
-//! What is shown of an artifact.
+//! What is found of an artifact: the verdict on it, and what is shown of it.
 ghost use Rattle.std.specs.Prelude.{◌≡◌, IfOk, OnOk, Some};
 ghost use Rattle.sig_base.specs.ByText.{text_lookup};
-ghost use Rattle.sig_explain_gate.specs.Artifact.{AreFound, IsArtifactTree, artifact_tree};
+ghost use Rattle.sig_explain_gate.specs.Artifact.{AreFound, IsArtifactFound, artifact_tree};
 ghost use Rattle.sig_explain_gate.specs.Roots.{AreRead, IsReadRoot};
 ghost use Rattle.sig_gate_command.specs.Request.{parts_of};
 ghost use Rattle.sig_json.specs.Tree.{document_tree};
@@ -13,12 +13,20 @@ use crate::bundle::find_under;
 use crate::roots::{ReadRoot, ReadRoots, read_named};
 use sig_base::OutOfMemory;
 use sig_explain_verify::VerifyInputs;
-use sig_gate::{BundleVerdicts, is_admitted};
+use sig_gate::{BundleVerdicts, Verdict, is_admitted};
 use sig_gate_command::GateRequest;
 use sig_json::{Document, Object};
 use sig_manifest::Artifact;
 use sig_policy::RequestPolicy;
 use std::alloc::Global;
+
+/// The verdict on an artifact, and the document that explains it.
+#[derive(Drop)]
+pub(crate) struct ArtifactFinding {
+    pub(crate) verdict: Verdict,
+    /// The object of `admitted`, `yes` or `no`; of `bundles`, what is shown of each; and of `name`.
+    pub(crate) document: Document,
+}
 
 /// What is found of the bundles of an artifact, in order.
 #[derive(Drop)]
@@ -28,25 +36,26 @@ pub(crate) struct Findings {
     list: Document,
 }
 
-/// What is shown of an artifact: `admitted`, `yes` or `no`; `bundles`; and `name`. Its trusted root was read afterwards,
-/// if it has a bundle. Fails only if out of memory.
-pub(crate) fn artifact_document(
+/// What is found of an artifact. Its trusted root was read afterwards, if it has a bundle. Fails only if out of memory.
+pub(crate) fn find_artifact(
     alloc: Global,
     roots: &mut ReadRoots,
     request: &GateRequest,
     artifact: &Artifact,
-) -> Result<Document, OutOfMemory>
+) -> Result<ArtifactFinding, OutOfMemory>
     requires named { IsNamedIn (manifest_view request.now.manifest) (artifact_view artifact.now) }
     requires read { AreRead (manifest_view request.now.manifest) roots.old }
-    ensures tree { IfOk result (λ document. IsArtifactTree (parts_of request.entry.now) (artifact_view artifact.now)
-        (document_tree document)) }
+    ensures found { IfOk result (IsArtifactFound (parts_of request.entry.now) (artifact_view artifact.now)) }
     ensures read { OnOk result (AreRead (manifest_view request.entry.now.manifest) roots.new) }
 {
     let found = find_bundles(alloc, roots, request, artifact)?;
     let admitted = is_admitted(alloc, &artifact.rule, found.verdicts.as_slice())?;
-    let Findings { verdicts, list } = found;
-    drop(verdicts);
-    written(alloc, admitted, list, artifact.name.as_str())
+    let document = written(alloc, admitted, found.list, artifact.name.as_str())?;
+    let verdict = Verdict {
+        admitted,
+        bundles: found.verdicts,
+    };
+    Ok(ArtifactFinding { verdict, document })
 }
 
 /// What is found of the bundles of an artifact. Its trusted root was read afterwards, if it has one.

@@ -5,8 +5,8 @@
 //! {"cause":["ConsistencyProofError","MismatchedRoot"],"link":"note-match","note":{..},"proof":{..}}
 //! ```
 //!
-//! A module for each command that has its own links makes reply and explanation of one reading of the request; those of
-//! `audit`, `witness` and `gate` are made by the crates of these commands.
+//! A module for each command that has its own links makes reply and explanation of one reading of the request, and so does
+//! the crate of `explain gate`; those of `audit` and `witness` are made by the crates of these commands.
 ghost use Rattle.std.specs.Prelude.{◌≡◌, IfOk};
 ghost use Rattle.sig_program.specs.ExplainedReply.{IsExplained, long_explained};
 ghost use Rattle.sig_program.specs.Explanation.{HasOneExplanation};
@@ -21,11 +21,10 @@ use crate::explanation::{explained_by, refused_text};
 use sig_audit_command::audit_reply;
 use sig_base::OutOfMemory;
 use sig_explain_audit::audit_explanation;
-use sig_explain_gate::gate_explanation;
+use sig_explain_gate::explained_gate;
 use sig_explain_gate::laws::texts;
 use sig_explain_verify::laws::results;
 use sig_explain_witness::witness_explanation;
-use sig_gate_command::gate_reply;
 use sig_reply::Reply;
 use sig_request_fault::RequestFault;
 use sig_witness_command::witness_reply;
@@ -93,7 +92,6 @@ fn explain_witness(alloc: Global, request: &[u8]) -> Result<Reply, OutOfMemory>
 fn explain_gate(alloc: Global, request: &[u8]) -> Result<Reply, OutOfMemory>
     ensures { IfOk result (IsExplained Gate request.now) }
 {
-    let plain = gate_reply(alloc, request)?;
-    let explanation = gate_explanation(alloc, request)?;
-    explained_by(alloc, &plain, &explanation)
+    let explained = explained_gate(alloc, request)?;
+    explained_by(alloc, &explained.reply, &explained.document)
 }

@@ -1,7 +1,7 @@
 -- What is found of one bundle more, and of all.
 use Rattle.std.proofs.Common.{◌∙◌, ℤ, subst, sym}
 use Rattle.std.proofs.Math.Facts.{to_z-of_z}
-use Rattle.sig_explain_gate.proofs.Artifacts.{all-found, walked-more}
+use Rattle.sig_explain_gate.proofs.FoundArtifacts.{all-found, walked-more}
 use Rattle.sig_explain_gate.specs.Roots.{IsReadRoot}
 use Rattle.sig_gate_command.specs.Request.{parts_of}
 use Rattle.sig_json.specs.Tree.{document_tree}

@@ -1,5 +1,5 @@
 use Rattle.std.proofs.Common.{take}
-use Rattle.sig_explain_gate.proofs.Artifacts.{IsWalked}
+use Rattle.sig_explain_gate.proofs.FoundArtifacts.{IsWalked}
 use Rattle.sig_gate_command.specs.Request.{parts_of}
 use Rattle.sig_json.specs.Tree.{document_tree}
 use Rattle.sig_manifest.specs.Artifact.{artifact_view}

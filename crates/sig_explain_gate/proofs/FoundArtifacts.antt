@@ -1,4 +1,4 @@
--- What is shown of one bundle more, and of one artifact more.
+-- What is found of one bundle more, and of one artifact more.
 use Rattle.std.proofs.Common.{◌≡◌, ◌↔◌, ℕ, ℤ, ◌+◌, ◌<◌, ◌≤◌, Bool, true, List, [], ◌∷◌, ◌++◌, take, get_or, length, Some}
 use Rattle.std.proofs.Common.{refl, subst, ap, ◌∙◌}
 use Rattle.std.proofs.lemmas.List.{take_all}
@@ -6,22 +6,28 @@ use Rattle.std.specs.List.{AllZip}
 use Rattle.sig_base.proofs.PairedLists.{zip_more}
 use Rattle.sig_base.specs.ByText.{text_lookup}
 use Rattle.sig_json.proofs.WrittenLists.{list_tree-append}
-use Rattle.sig_explain_gate.specs.Artifact.{AreFound, IsArtifactTree, IsBundleTree, IsGateTree, IsListOf, artifact_tree}
-use Rattle.sig_explain_gate.specs.Artifact.{artifacts_tree, inputs_with, trees_list}
+use Rattle.sig_explain_gate.specs.Artifact.{AreArtifactsFound, AreFound, IsArtifactFound, IsArtifactTree, IsBundleTree}
+use Rattle.sig_explain_gate.specs.Artifact.{IsGateTree, IsListOf, artifact_tree, artifacts_tree, inputs_with, trees_list}
 use Rattle.sig_explain_gate.specs.Bundle.{IsBundleShown}
+use Rattle.sig_explain_gate.specs.declared.artifact.ArtifactFinding.{ArtifactFinding}
 use Rattle.sig_explain_gate.specs.declared.artifact.Findings.{Findings}
+use Rattle.sig_explain_gate.specs.declared.artifacts.ArtifactFindings.{ArtifactFindings}
 use Rattle.sig_explain_verify.specs.Inputs.{Inputs as Explained}
-use Rattle.sig_gate.proofs.VerifiedEntries.{are-verified}
+use Rattle.sig_gate.proofs.VerifiedEntries.{artifact-verdict}
 use Rattle.sig_gate.proofs.Zips.{zip-all, zip-viewed}
 use Rattle.sig_gate.specs.BundleVerdict.{IsBundleVerdict}
-use Rattle.sig_gate.specs.Gate.{IsDecided}
+use Rattle.sig_gate.specs.Gate.{IsVerdict}
 use Rattle.sig_gate.specs.RuleHolds.{IsAdmitted}
 use Rattle.sig_gate.specs.VerifiedBundles.{entries_of}
 use Rattle.sig_gate.specs.declared.verdict.BundleVerdict.{BundleVerdict}
+use Rattle.sig_gate.specs.declared.verdict.Verdict.{Verdict}
 use Rattle.sig_gate_command.specs.Reply.{checker_with}
+use Rattle.sig_gate_command.specs.Request.{parts_of}
+use Rattle.sig_gate_command.specs.declared.request.GateRequest.{GateRequest}
 use Rattle.sig_json.specs.Builders.{with_last}
 use Rattle.sig_json.specs.Data.{Data}
 use Rattle.sig_json.specs.Tree.{document_tree}
+use Rattle.sig_json.specs.declared.document.Document.{Document}
 use Rattle.sig_manifest.specs.Artifact.{Asked, artifact_view}
 use Rattle.sig_manifest.specs.Manifest.{artifacts_view}
 use Rattle.sig_manifest.specs.Read.{Parts}
@@ -33,6 +39,13 @@ pub pushed : (trees : List Data) (tree before after : Data) → before ≡ trees
     → after ≡ trees_list (trees ++ tree ∷ [])
 pushed trees tree before after so_far grown =
     grown ∙ ap (with_last tree) so_far ∙ list_tree-append (λ t. t) trees tree
+
+-- what is found of an artifact with these verdicts
+abbrev pub finding : Bool → List BundleVerdict → Document → ArtifactFinding
+finding admitted bundles document = record {
+  verdict = record { admitted = admitted; bundles = bundles };
+  document = document;
+}
 
 -- what is found of these, in order
 pub record IsWalked (parts : Parts) (x : Asked) (bundles : List (List ℕ)) (verdicts : List BundleVerdict) (list : Data)
@@ -118,33 +131,34 @@ module _ (parts : Parts) (x : Asked) where
 
   -- ---- the artifact
 
-  decided-by : (verdicts seen : List BundleVerdict) (admitted : Bool)
-      → AllZip (IsBundleVerdict (checker_with parts.1) parts.0 x) x.bundles verdicts → seen ≡ verdicts
-      → (admitted ≡ true) ↔ IsAdmitted x.rule (entries_of seen) → IsDecided (checker_with parts.1) parts.0 x admitted
-  decided-by verdicts seen admitted are same decided = record {
-    entries = entries_of verdicts;
-    verified = are-verified (checker_with parts.1) parts.0 x x.bundles verdicts are;
-    decided = subst (λ (vs : List BundleVerdict). (admitted ≡ true) ↔ IsAdmitted x.rule (entries_of vs)) same decided;
-  }
-
-  pub artifact-shown : (found : Findings) (seen : List BundleVerdict) (admitted : Bool) (name : List ℕ) (tree : Data)
-      → AreFound parts x x.bundles found → seen ≡ found.verdicts
+  pub artifact-found : (found : Findings) (seen : List BundleVerdict) (admitted : Bool) (name : List ℕ)
+      (document : Document) → AreFound parts x x.bundles found → seen ≡ found.verdicts
       → (admitted ≡ true) ↔ IsAdmitted x.rule (entries_of seen) → name ≡ x.name
-      → tree ≡ artifact_tree admitted (document_tree found.list) name → IsArtifactTree parts x tree
-  artifact-shown found seen admitted name tree are same decided called made = record {
-    admitted = admitted;
-    decided = decided-by found.verdicts seen admitted are.verdicts same decided;
-    trees = are.trees;
-    bundles = are.shown;
-    made =
-        made ∙ ap (λ list. artifact_tree admitted list name) are.made
-        ∙ ap (artifact_tree admitted (trees_list are.trees)) called;
-  }
+      → document_tree document ≡ artifact_tree admitted (document_tree found.list) name
+      → IsArtifactFound parts x (finding admitted found.verdicts document)
+  artifact-found found seen admitted name document are same decided called made =
+      let verdict : IsVerdict (checker_with parts.1) parts.0 x (finding admitted found.verdicts document).verdict =
+      artifact-verdict (checker_with parts.1) parts.0 x found.verdicts seen admitted are.verdicts same decided in record {
+        verdict = verdict;
+        shown = record {
+          admitted = admitted;
+          decided = verdict.decided;
+          trees = are.trees;
+          bundles = are.shown;
+          made =
+              made ∙ ap (λ list. artifact_tree admitted list name) are.made
+              ∙ ap (artifact_tree admitted (trees_list are.trees)) called;
+        };
+      }
 
 -- ---- artifacts
 
--- what is shown of these, in order
-pub record IsListed (parts : Parts) (artifacts : List Artifact) (list : Data) : Type 0 where
+-- what is found of these, in order
+pub record IsListed (parts : Parts) (artifacts : List Artifact) (verdicts : List Verdict) (list : Data) : Type 0 where
+  pub judged :
+      AllZip
+      (λ (x : Artifact) (verdict : Verdict). IsVerdict (checker_with parts.1) parts.0 (artifact_view x) verdict)
+      artifacts verdicts
   pub trees : List Data
   pub shown : AllZip (λ (x : Artifact) (tree : Data). IsArtifactTree parts (artifact_view x) tree) artifacts trees
   pub made : list ≡ trees_list trees
@@ -153,24 +167,39 @@ module _ (parts : Parts) where
   abbrev Shows : Artifact → Data → Type 0
   Shows x tree = IsArtifactTree parts (artifact_view x) tree
 
-  pub none-listed : (list : Data) → list ≡ trees_list [] → IsListed parts [] list
-  none-listed list made = record { trees = []; shown = tt; made = made }
+  abbrev Judges : Artifact → Verdict → Type 0
+  Judges x verdict = IsVerdict (checker_with parts.1) parts.0 (artifact_view x) verdict
 
-  pub listed-more : (artifacts : List Artifact) (index : ℕ) (x : Artifact) (tree list grown : Data)
-      → index < length artifacts → x ≡ get_or artifacts index x → IsArtifactTree parts (artifact_view x) tree
-      → grown ≡ with_last tree list → IsListed parts (take index artifacts) list
-      → IsListed parts (take (index + 1) artifacts) grown
-  listed-more artifacts index x tree list grown below is shown put listed = record {
-    trees = listed.trees ++ tree ∷ [];
+  pub none-listed : (list : Data) → list ≡ trees_list [] → IsListed parts [] [] list
+  none-listed list made = record { judged = tt; trees = []; shown = tt; made = made }
+
+  pub listed-more : (artifacts : List Artifact) (index : ℕ) (x : Artifact) (found : ArtifactFinding)
+      (before after : List Verdict) (list grown : Data) → index < length artifacts → x ≡ get_or artifacts index x
+      → IsArtifactFound parts (artifact_view x) found → after ≡ before ++ found.verdict ∷ []
+      → grown ≡ with_last (document_tree found.document) list → IsListed parts (take index artifacts) before list
+      → IsListed parts (take (index + 1) artifacts) after grown
+  listed-more artifacts index x found before after list grown below is here added put listed = record {
+    judged =
+        zip_more Judges artifacts artifacts index x x found.verdict before after refl below is refl here.verdict added
+        listed.judged;
+    trees = listed.trees ++ document_tree found.document ∷ [];
     shown =
-        zip_more Shows artifacts artifacts index x x tree listed.trees (listed.trees ++ tree ∷ []) refl below is refl shown
-        refl listed.shown;
-    made = pushed listed.trees tree list grown listed.made put;
+        zip_more Shows artifacts artifacts index x x (document_tree found.document) listed.trees
+        (listed.trees ++ document_tree found.document ∷ []) refl below is refl here.shown refl listed.shown;
+    made = pushed listed.trees (document_tree found.document) list grown listed.made put;
   }
 
-  pub all-listed : (artifacts seen : List Artifact) (index : ℕ) (list : Data) → seen ≡ artifacts → length seen ≤ index
-      → IsListed parts (take index seen) list → IsListOf parts (artifacts_view artifacts) list
-  all-listed artifacts seen index list same end listed = record {
+  all-judged : (artifacts seen : List Artifact) (index : ℕ) (verdicts : List Verdict) (list : Data) → seen ≡ artifacts
+      → length seen ≤ index → IsListed parts (take index seen) verdicts list
+      → AllZip (IsVerdict (checker_with parts.1) parts.0) (artifacts_view artifacts) verdicts
+  all-judged artifacts seen index verdicts list same end listed =
+      zip-viewed artifact_view (IsVerdict (checker_with parts.1) parts.0) artifacts verdicts
+      (subst (λ (xs : List Artifact). AllZip Judges xs verdicts) same (zip-all Judges seen verdicts index end listed.judged))
+
+  all-listed : (artifacts seen : List Artifact) (index : ℕ) (verdicts : List Verdict) (list : Data) → seen ≡ artifacts
+      → length seen ≤ index → IsListed parts (take index seen) verdicts list
+      → IsListOf parts (artifacts_view artifacts) list
+  all-listed artifacts seen index verdicts list same end listed = record {
     trees = listed.trees;
     shown =
         zip-viewed artifact_view (IsArtifactTree parts) artifacts listed.trees
@@ -186,3 +215,17 @@ module _ (parts : Parts) where
     artifacts = listed.shown;
     made = made ∙ ap artifacts_tree listed.made;
   }
+
+-- what is found of all artifacts of a request
+pub all-artifacts : (request : GateRequest) (seen : List Artifact) (index : ℕ) (found : ArtifactFindings)
+    → seen ≡ request.manifest.artifacts → length seen ≤ index
+    → IsListed (parts_of request) (take index seen) found.verdicts (document_tree found.list)
+    → AreArtifactsFound (parts_of request) found
+all-artifacts request seen index found same end listed = record {
+  verdicts =
+      all-judged (parts_of request) request.manifest.artifacts seen index found.verdicts (document_tree found.list) same end
+      listed;
+  shown =
+      all-listed (parts_of request) request.manifest.artifacts seen index found.verdicts (document_tree found.list) same end
+      listed;
+}

@@ -1,13 +1,13 @@
 use Rattle.std.proofs.Common.{take}
-use Rattle.sig_explain_gate.proofs.Artifacts.{IsListed}
+use Rattle.sig_explain_gate.proofs.FoundArtifacts.{IsListed}
 use Rattle.sig_explain_gate.specs.Roots.{AreRead}
 use Rattle.sig_gate_command.specs.Request.{parts_of}
 use Rattle.sig_json.specs.Tree.{document_tree}
 use Rattle.sig_manifest.specs.Manifest.{manifest_view}
-use Rattle.sig_explain_gate.proofs.explanation.artifact_documents.Given as goal
+use Rattle.sig_explain_gate.proofs.artifacts.find_under_roots.Given as goal
 
--- what is shown so far
+-- what is found so far
 abbrev pub invariant-artifacts : goal.invariant-artifacts
 invariant-artifacts l =
-    IsListed (parts_of l.request) (take l.artifact-index l.artifacts) (document_tree l.list)
+    IsListed (parts_of l.request) (take l.artifact-index l.artifacts) l.verdicts (document_tree l.list)
     × AreRead (manifest_view l.request.manifest) l.roots
