@@ -3,6 +3,7 @@ pub mod RuleHolds
 pub mod Gate
 pub mod Report
 pub mod NamedRoots
+pub mod NamedPolicies
 pub mod FoundVerdict
 pub mod VerifiedBundles
 pub mod Laws

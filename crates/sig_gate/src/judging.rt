@@ -4,6 +4,7 @@ ghost use Rattle.std.specs.List.{AllZip};
 ghost use Rattle.sig_base.specs.ByText.{text_lookup};
 ghost use Rattle.sig_gate.specs.BundleVerdict.{IsBundleVerdict};
 ghost use Rattle.sig_gate.specs.FoundVerdict.{IsFoundUnder, IsRefusedBy};
+ghost use Rattle.sig_gate.specs.NamedPolicies.{AreHeldPolicies};
 ghost use Rattle.sig_gate.specs.NamedRoots.{AreHeld, IsRootNamed};
 ghost use Rattle.sig_gate.specs.declared.named_roots.NamedRoot.TheVariants.{Held};
 ghost use Rattle.sig_manifest.specs.Artifact.{artifact_view};
@@ -11,30 +12,33 @@ ghost use Rattle.sig_manifest.specs.Manifest.{manifest_view};
 ghost use Rattle.sig_manifest.specs.Unknown.{IsNamedIn};
 ghost use Rattle.sig_verify.specs.Verdict.{checker_of};
 
+use crate::named_policies::{NamedPolicies, hold_policy};
 use crate::named_roots::{NamedRoot, NamedRoots, hold_root};
 use crate::verdict::{BundleVerdict, BundleVerdicts};
 use sig_base::{OutOfMemory, SignatureChecker};
 use sig_dsse::ArtifactDigest;
 use sig_manifest::{Artifact, Manifest};
-use sig_policy::RequestPolicy;
-use sig_request::BriefPolicy;
+use sig_policy::HeldPolicy;
 use sig_verify::{HeldRoot, Link};
 use std::alloc::Global;
 
-/// The verdict on each bundle of an artifact. The artifact's trusted root is held afterwards, if it has a bundle. Fails
-/// only if out of memory.
-pub(crate) fn judge_bundles<C: SignatureChecker>(
+/// The verdict on each bundle of an artifact. The artifact's trusted root and its policy are held afterwards, if it has a
+/// bundle. Fails only if out of memory.
+pub(crate) fn judge_bundles<'a, C: SignatureChecker>(
     alloc: Global,
     held: &mut NamedRoots,
-    manifest: &Manifest,
+    policies: &mut NamedPolicies<'a>,
+    manifest: &'a Manifest,
     artifact: &Artifact,
     checker: &C,
 ) -> Result<BundleVerdicts, OutOfMemory>
     requires named { IsNamedIn (manifest_view manifest.now) (artifact_view artifact.now) }
     requires held { AreHeld (manifest_view manifest.now) held.old }
+    requires policies { AreHeldPolicies (manifest_view manifest.now) policies.old }
     ensures verdicts { IfOk result (AllZip (IsBundleVerdict (checker_of C.SignatureChecker checker.now)
         (manifest_view manifest.entry.now) (artifact_view artifact.now)) artifact.now.bundles) }
     ensures held { OnOk result (AreHeld (manifest_view manifest.entry.now) held.new) }
+    ensures policies { OnOk result (AreHeldPolicies (manifest_view manifest.entry.now) policies.new) }
 {
     if artifact.bundles.len() == 0 {
         return Ok(BundleVerdicts::new(alloc));
@@ -44,7 +48,9 @@ pub(crate) fn judge_bundles<C: SignatureChecker>(
     let Some(root) = held.get(name) else {
         unreachable!()
     };
-    let Some(policy) = manifest.policies.get(artifact.policy.as_str()) else {
+    let policy_name = artifact.policy.as_str();
+    hold_policy(alloc, policies, manifest, policy_name)?;
+    let Some(policy) = policies.get(policy_name) else {
         unreachable!()
     };
     judge_under(alloc, root, policy, manifest, artifact, checker)
@@ -54,7 +60,7 @@ pub(crate) fn judge_bundles<C: SignatureChecker>(
 fn judge_under<C: SignatureChecker>(
     alloc: Global,
     root: &NamedRoot,
-    policy: &RequestPolicy,
+    policy: &HeldPolicy<'_>,
     manifest: &Manifest,
     artifact: &Artifact,
     checker: &C,
@@ -86,7 +92,7 @@ fn judge<C: SignatureChecker>(
     root: &NamedRoot,
     digest: &ArtifactDigest,
     bundle: &[u8],
-    policy: &RequestPolicy,
+    policy: &HeldPolicy<'_>,
     checker: &C,
 ) -> Result<BundleVerdict, OutOfMemory>
     ensures { IfOk result (IsFoundUnder (checker_of C.SignatureChecker checker.now)
@@ -104,15 +110,13 @@ fn verify<C: SignatureChecker>(
     root: &HeldRoot,
     digest: &ArtifactDigest,
     bundle: &[u8],
-    policy: &RequestPolicy,
+    policy: &HeldPolicy<'_>,
     checker: &C,
 ) -> Result<BundleVerdict, OutOfMemory>
     ensures { IfOk result (IsFoundUnder (checker_of C.SignatureChecker checker.now)
         policy.now (Held root.now) digest.now bundle.now) }
 {
-    // A refusal in full is never shown, and may be longer than memory has room for.
-    let policy = BriefPolicy { policy };
-    match root.verify(alloc, digest, bundle, &policy, checker) {
+    match root.verify(alloc, digest, bundle, policy, checker) {
         Ok(entry) => Ok(BundleVerdict::Verified(entry)),
         Err(error) => {
             let link = error.link();

@@ -18,11 +18,13 @@ mod different;
 mod holding;
 mod judging;
 pub mod laws;
+mod named_policies;
 mod named_roots;
 mod report_text;
 mod verdict;
 
 pub use admission::gate;
 pub use decision::is_admitted;
+pub use named_policies::{NamedPolicies, hold_policy};
 pub use report_text::{all_admitted, report};
 pub use verdict::{BundleVerdict, BundleVerdicts, Verdict, Verdicts};

@@ -1,13 +1,13 @@
 //! `Verdict`: what a gate finds of an artifact and of each of its bundles.
 
 use sig_base::OwnedList;
-use sig_verify::{Link, Offline};
+use sig_verify::{Link, LoggedEntry};
 
 /// What is found of a bundle.
 #[derive(Drop)]
 pub enum BundleVerdict {
     /// Every link of the chain of trust holds; this is the bundle's log entry, with its proof.
-    Verified(Offline),
+    Verified(LoggedEntry),
     /// This link of the chain of trust is the first that fails.
     Refused(Link),
 }

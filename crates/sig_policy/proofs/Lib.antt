@@ -9,3 +9,6 @@ pub mod SingleLaws
 pub mod IdentityRefusals
 pub mod NamedLaws
 pub mod RuleLaws
+pub mod AnyLaws
+pub mod AskedNames
+pub mod AskedLaws

@@ -10,3 +10,4 @@ pub mod Said
 pub mod CertificateWords
 pub mod Requests
 pub mod MetRule
+pub mod AskedTexts

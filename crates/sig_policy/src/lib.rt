@@ -16,9 +16,12 @@
 //! memory ran out.
 #![tactic(auto)]
 
+mod asked_identities;
+mod asked_texts;
 mod boxed;
 mod failure;
 mod fulcio;
+mod held_policy;
 mod identities;
 mod identity;
 mod identity_set;
@@ -28,6 +31,7 @@ mod request;
 mod said;
 mod single;
 mod subject;
+mod text_sets;
 mod utf8;
 
 pub use boxed::{AllOf, AnyOf};
@@ -36,6 +40,7 @@ pub use fulcio::{
     GitHubWorkflowName, GitHubWorkflowRef, GitHubWorkflowRepository, GitHubWorkflowSHA,
     GitHubWorkflowTrigger, OIDCIssuer,
 };
+pub use held_policy::HeldPolicy;
 pub use identity::Identity;
 pub use laws::{identity_laws, refusal_laws, rule_laws};
 pub use policy::{PolicyResult, VerificationPolicy};

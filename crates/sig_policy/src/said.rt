@@ -22,13 +22,13 @@ use std::alloc::Global;
 /// the certificate.
 #[derive(Drop)]
 pub(crate) struct Said<'a> {
-    issuer: Option<&'a str>,
-    trigger: Option<&'a str>,
-    sha: Option<&'a str>,
-    name: Option<&'a str>,
-    repository: Option<&'a str>,
-    git_ref: Option<&'a str>,
-    identities: IdentitySet<'a>,
+    pub(crate) issuer: Option<&'a str>,
+    pub(crate) trigger: Option<&'a str>,
+    pub(crate) sha: Option<&'a str>,
+    pub(crate) name: Option<&'a str>,
+    pub(crate) repository: Option<&'a str>,
+    pub(crate) git_ref: Option<&'a str>,
+    pub(crate) identities: IdentitySet<'a>,
 }
 
 /// Returns what the certificate says. Fails only if out of memory.

@@ -29,6 +29,7 @@ artifacts-preserved g c =
           c.artifacts.verdicts c.push.new.self refl c.artifacts-test.true c.artifact-item.is refl
           c.in_ok-verdict.ensures.verdict c.in_ok-push.ensures.ok c.artifacts.invariant.0,
       c.in_ok-verdict.ensures.held,
+      c.in_ok-verdict.ensures.policies,
     )
 
 pub returns : goal.returns
