@@ -6,6 +6,7 @@
     tools/gate_requests.py check PROGRAM    runs the program on manifests by chance, and on the longest lists; and compares its replies
 
 The replies are this program's own: a manifest is read as tools/gate_manifests.py does, and its artifacts are judged as tools/gate_verdicts.py does."""
+import itertools
 import json
 import pathlib
 import random
@@ -16,6 +17,7 @@ TOP = pathlib.Path(__file__).resolve().parent.parent
 sys.dont_write_bytecode = True
 sys.path.insert(0, str(TOP / "tools"))
 import fixture
+from fixture import FULCIO, ISSUER, SEQUENCE, SUBJECT_ALTERNATIVE_NAME, URI, WORKFLOW, der, extension, leaf, leaf_extensions
 import gate_manifests as manifests
 import request_table
 from gate_verdicts import report_lines, verdict
@@ -27,7 +29,7 @@ ORIGIN = "fixture.log"
 # ---- the replies
 
 def read_request(text):
-    """A manifest as it is read. gate_manifests.Refused: the text is none."""
+    """A manifest as it is read. gate_manifests.Refused: the text is not one."""
     if len(text.encode()) > MOST_BYTES:
         raise manifests.Refused("TooLong")
     return manifests.read_manifest(text)
@@ -66,6 +68,17 @@ MESSAGE = fixture.MessageRequest()
 ROOT = fixture.compact(F.trusted_root())
 
 
+def signed_by(**held):
+    """A request whose certificate says something else of the signer."""
+    return fixture.Request(leaf=leaf(leaf_extensions(**held)))
+
+
+CLAIMS = ("trigger", "sha", "name", "repository", "ref")
+CLAIMED = signed_by(others=b"".join(extension(FULCIO[name], b"the " + name.encode()) for name in CLAIMS))
+TWO_NAMES = signed_by(names=extension(SUBJECT_ALTERNATIVE_NAME, der(SEQUENCE, der(0x81, b"user"), der(URI, WORKFLOW.encode()))))
+NAMELESS, WITHOUT_ISSUER = signed_by(names=b""), signed_by(issued=b"")
+
+
 def text_of(made):
     return fixture.compact(made.bundle(), canonical=True)
 
@@ -84,14 +97,16 @@ def rows_of(*given):
 
 
 TEXTS = {text_of(made): made for made in (F, LATE, OTHER, LARGER, MESSAGE)}
+SIGNERS = {text_of(made): made for made in (CLAIMED, TWO_NAMES, NAMELESS, WITHOUT_ISSUER)}
+MADE = {**TEXTS, **SIGNERS}
 
 
 def manifest(*artifacts, accepted=None, **changes):
     """The manifest of these artifacts, which accepts the signatures of their bundles, if nothing else is given."""
     artifacts = list(artifacts) or [artifact()]
-    used = dict.fromkeys(text for each in artifacts for text in each.get("bundles", ()) if text in TEXTS)
+    used = dict.fromkeys(text for each in artifacts for text in each.get("bundles", ()) if text in MADE)
     made = {"now": F.now, "roots": {"r": ROOT}, "policies": {"p": F.policy}, "artifacts": artifacts,
-            "accepted": rows_of(*map(TEXTS.get, used)) if accepted is None else accepted}
+            "accepted": rows_of(*map(MADE.get, used)) if accepted is None else accepted}
     return {**made, **changes}
 
 
@@ -137,6 +152,10 @@ def artifacts():
     yield manifest(artifact(name="tool-1.0.tar.gz"), artifact([F, LATE], name="b"), artifact([], name="c"), artifact(digest=other, name="d"))
     yield manifest(artifact(name="a"), artifact(name="a"), artifact(name="~!\"\\"))
     yield manifest(artifact(root="s"), artifact(root="x"), artifact(), roots={"r": ROOT, "s": "{}", "x": "no root"})
+    bundled = [F, OTHER, LATE, LARGER, MESSAGE, "x"]
+    yield manifest(*[artifact([each], root=root, name=f"a{place}") for place, (each, root) in enumerate(zip(bundled, "rx" * 3))],
+                   roots={"r": ROOT, "x": "no root"})
+    yield manifest(artifact([], root="x"), artifact([F, OTHER], name="b"), artifact([], root="x", name="c"), roots={"r": ROOT, "x": "no root"})
     yield manifest(artifact(policy="q"), artifact(), policies={"p": F.policy, "q": {"all": [{"issuer": "nobody"}]}})
     yield manifest(artifact(root="t"))
     yield manifest(artifact(), artifact(policy="t"))
@@ -144,6 +163,42 @@ def artifacts():
         yield manifest(artifact(name=name))
     for now in (0, 1704067200, 2**62):
         yield manifest(now=now)
+
+
+def identity(name, issuer=ISSUER):
+    return {"identity": name, "issuer": issuer}
+
+
+HELD = [{"issuer": ISSUER}, *({name: "the " + name} for name in CLAIMS), identity(WORKFLOW)]  # a rule of each kind, which CLAIMED meets
+NOT_HELD = [{"issuer": "x"}, *({name: "the " + name + "s"} for name in CLAIMS), identity(WORKFLOW + "s")]
+
+
+def under(bundles, *policies, **changes):
+    """An artifact under each of these policies."""
+    return manifest(*[artifact(bundles, name=f"a{place}", policy=f"p{place}") for place in range(len(policies))],
+                    policies={f"p{place}": policy for place, policy in enumerate(policies)}, **changes)
+
+
+def policies():
+    pairs = list(zip(HELD, NOT_HELD))
+    yield under([CLAIMED], *({"any": [other, rule, other]} for rule, other in pairs))
+    yield under([CLAIMED], *({"any": [other, other]} for _, other in pairs), {"any": NOT_HELD})
+    yield under([CLAIMED], *({"all": [rule, rule]} for rule, _ in pairs), {"all": HELD})
+    yield under([CLAIMED], *({"all": [rule, other, rule]} for rule, other in pairs), {"all": [*HELD, *HELD, NOT_HELD[3]]})
+    own, strange = identity(WORKFLOW), identity(WORKFLOW, "x")
+    crossed = [strange, identity("user", "x"), identity("nobody")]
+    yield under([TWO_NAMES, NAMELESS, WITHOUT_ISSUER], {"any": crossed}, {"any": [*crossed, identity("user")]}, {"any": [{"issuer": ISSUER}, *crossed]})
+    yield under([TWO_NAMES, NAMELESS], {"all": [own, identity("user"), own]}, {"all": [own, strange]}, {"all": [own, {"issuer": "x"}]},
+                {"all": [own, identity("nobody")]})
+    yield under([F], {"any": [identity("")]}, {"any": [identity(WORKFLOW, "")]}, {"all": [identity(""), own]}, {"any": [{"ref": ""}, {"issuer": ""}]})
+    wide = {"any": [*NOT_HELD, own]}
+    near = {"any": [*NOT_HELD, identity(WORKFLOW[:-1])]}
+    yield manifest(*[artifact([F, LARGER], name=f"{name}{place}", policy=name) for place in range(3) for name in ("wide", "near")],
+                   policies={"wide": wide, "near": near})
+    yield manifest(*[artifact([], name=name, policy=name) for name in ("wide", "near")], artifact(policy="wide"), policies={"wide": wide, "near": near})
+    texts = [identity(f"{WORKFLOW}/{place}", f"{ISSUER}/{place % 7}") for place in range(150)]
+    for how in "any", "all":
+        yield under([F], {how: texts}, {how: [*texts[:75], own, *texts[75:]]}, {how: [own] * 150}, {how: [{"issuer": ISSUER}] * 75 + [own] * 75})
 
 
 def members():
@@ -170,7 +225,9 @@ def hundreds():
 
 GROUPS = {"one bundle, two of which one fails, one bundle twice, and none": first_rows, "each rule, and rules of rules": rules,
           "bundles that are refused, each by a link, beside one that is not": bundles,
-          "several artifacts, trusted roots and policies": artifacts, "texts that are not a manifest": members,
+          "several artifacts, trusted roots and policies": artifacts,
+          "policies of rules of each kind, of equal rules, of an identity under another issuer, and of many": policies,
+          "texts that are not a manifest": members,
           "the longest lists, and longer ones": hundreds}
 
 
@@ -195,6 +252,19 @@ def by_chance():
         yield manifest(*made, accepted=[row for row in rows if chance.random() < 0.97])
 
 
+def policies_by_chance():
+    """Up to four policies of up to nine rules, and up to eight artifacts under them."""
+    chance = random.Random(335)
+    rules = [*HELD, *NOT_HELD, *({"issuer": text} for text in ("", ISSUER + "x")),
+             *(identity(name, issuer) for name in ("user", WORKFLOW, "nobody") for issuer in (ISSUER, "x"))]
+    for _ in range(80):
+        names = "abcd"[:chance.randint(1, 4)]
+        listed = {name: {chance.choice(("all", "any")): chance.choices(chance.sample(rules, 3), k=chance.randint(1, 9))} for name in names}
+        made = [artifact(chance.choices([*SIGNERS, *TEXTS], k=chance.randint(0, 3)), name=f"a{place}", policy=chance.choice(names))
+                for place in range(chance.randint(1, 8))]
+        yield manifest(*made, policies=listed)
+
+
 def some_rule(chance, left):
     form = chance.choice(("least", "origin", "size") if left < 3 else ("least", "origin", "size", "all", "any", "not"))
     if form == "not":
@@ -207,5 +277,5 @@ def some_rule(chance, left):
 
 if __name__ == "__main__":
     if sys.argv[1:2] == ["check"]:
-        sys.exit(min(request_table.count_differing(sys.argv[2], "gate", by_chance(), lines), 1))
+        sys.exit(min(request_table.count_differing(sys.argv[2], "gate", itertools.chain(by_chance(), policies_by_chance()), lines), 1))
     request_table.write("gate", GROUPS, reply, examples(), lines)

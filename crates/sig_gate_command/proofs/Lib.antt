@@ -2,6 +2,7 @@ pub mod Requests
 pub mod Replies
 pub mod DistinctRows
 pub mod AskedRows
+pub mod AskedNames
 pub mod Listings
 pub mod Walks
 pub mod QuestionReplies

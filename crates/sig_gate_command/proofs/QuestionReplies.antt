@@ -6,7 +6,7 @@ use Rattle.sig_base.specs.declared.memory.OutOfMemory.{OutOfMemory}
 use Rattle.sig_gate_command.proofs.AskedRows.{all-rows-one}
 use Rattle.sig_gate_command.proofs.Replies.{long-manifest, no-manifest}
 use Rattle.sig_gate_command.proofs.Requests.{one_manifest}
-use Rattle.sig_gate_command.specs.Questions.{AreGateRows, AreWithin, Fit, HasNoRoom, HasQuestions, IsAskedOf}
+use Rattle.sig_gate_command.specs.Questions.{AreGateRows, AreWithin, Fit, HasQuestions, IsAskedOf}
 use Rattle.sig_gate_command.specs.Questions.{IsGateQuestionsReply, IsQuestionsDocument, IsUnasked, each_once, gate_inputs}
 use Rattle.sig_gate_command.specs.Request.{IsGateText, IsReadFrom}
 use Rattle.sig_gate_command.specs.Suffice.{GateListsAreGivenBack}
@@ -16,7 +16,7 @@ use Rattle.sig_questions.specs.Questions.{QuestionsAreOneList}
 use Rattle.sig_reply.proofs.FittingLists.{wherever_put}
 use Rattle.sig_reply.proofs.RowsTexts.{fits-beside}
 use Rattle.sig_reply.specs.Reply.{listed, no_request}
-use Rattle.sig_reply.specs.RowsText.{IsDocumentOf, IsReadBack, room_beside, rows_text}
+use Rattle.sig_reply.specs.RowsText.{IsReadBack, room_beside, rows_text}
 use Rattle.sig_reply.specs.declared.reply.Reply.{Reply}
 use Rattle.sig_request.specs.Limit.{most_bytes}
 

@@ -2,19 +2,18 @@
 use Rattle.std.proofs.Common.{◌≡◌, ◌<◌, ◌≤◌, ◌+◌, ◌∙◌, ℕ, true, false, List, [], ◌∷◌, length, IsSome, Option, Some, None, Result, Ok, Err}
 use Rattle.std.proofs.Common.{ap, arith, refl, sym}
 use Rattle.std.specs.List.{AllByRecursion}
-use Rattle.std.specs.Option.{ok_or, option_or}
+use Rattle.std.specs.Option.{option_or}
 use Rattle.sig_base.proofs.OptionSteps.{some_is}
 use Rattle.sig_base.proofs.ResultSteps.{ok_is}
 use Rattle.sig_base.specs.ByText.{text_lookup}
 use Rattle.sig_base.specs.declared.checker.AcceptedRow.{AcceptedRow}
-use Rattle.sig_gate_command.specs.Request.{IsGateText, IsReadFrom, IsUnread}
+use Rattle.sig_gate_command.specs.Request.{IsGateText, IsReadFrom}
 use Rattle.sig_json.proofs.Records.{record_in-read}
 use Rattle.sig_json.specs.Data.{Data}
-use Rattle.sig_json.specs.Document.{document_of}
 use Rattle.sig_manifest.specs.Artifact.{Asked}
 use Rattle.sig_manifest.specs.Manifest.{Gate, with_accepted}
 use Rattle.sig_manifest.specs.Read.{IsManifestWith, Parts, manifest_in, manifest_of, parts_view, unless_unknown}
-use Rattle.sig_manifest.specs.Unknown.{IsNamedIn, unknown_at, unknown_by, unknown_from}
+use Rattle.sig_manifest.specs.Unknown.{IsNamedIn, unknown_by, unknown_from}
 use Rattle.sig_manifest.specs.declared.error.ManifestError.{ManifestError}
 use Rattle.sig_manifest.specs.declared.manifest.Manifest.{Manifest}
 use Rattle.sig_policy.specs.declared.request.RequestPolicy.{RequestPolicy}

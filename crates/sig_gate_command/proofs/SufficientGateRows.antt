@@ -1,8 +1,8 @@
 -- Nothing but the listed signatures decides the reply of `gate`.
-use Rattle.std.proofs.Common.{◌≡◌, ◌↔◌, ◌∙◌, ℕ, Bool, List, [], ◌∷◌, ◌++◌, map, inl, inr, Some, ap, refl, subst, sym}
+use Rattle.std.proofs.Common.{◌≡◌, ◌↔◌, ℕ, List, [], ◌∷◌, map, inl, inr, Some, ap, subst, sym}
 use Rattle.std.proofs.lemmas.List.Elements.{Contains-append_left, Contains-append_right}
 use Rattle.std.specs.Cmp.{both_ways}
-use Rattle.std.specs.List.{AllByRecursion, AllZip}
+use Rattle.std.specs.List.{AllByRecursion}
 use Rattle.std.specs.Prelude.{Contains}
 use Rattle.sig_base.proofs.AcceptedRows.{accepted-rows, as_row}
 use Rattle.sig_base.specs.ByText.{text_lookup}
@@ -11,20 +11,18 @@ use Rattle.sig_base.specs.Scheme.{name_of}
 use Rattle.sig_base.specs.declared.checker.AcceptedRow.{AcceptedRow}
 use Rattle.sig_base.specs.declared.checker.Operation.{Operation}
 use Rattle.sig_base.specs.declared.checker.Operation.TheVariants.{Message, Prehash, Point, Certificate}
-use Rattle.sig_gate.specs.BundleVerdict.{IsJudged, inputs, outside}
-use Rattle.sig_gate.specs.Gate.{AreVerified, IsDecided, IsVerified}
+use Rattle.sig_gate.specs.BundleVerdict.{inputs, outside}
+use Rattle.sig_gate.specs.Gate.{AreVerified, IsVerified}
 use Rattle.sig_gate.specs.declared.verdict.BundleVerdict.{BundleVerdict}
 use Rattle.sig_gate.specs.declared.verdict.Verdict.{Verdict}
 use Rattle.sig_gate_command.proofs.LinkAgreement.{every-link-same, judged-same}
-use Rattle.sig_gate_command.proofs.Replies.{manifest-reply, unread-reply, zip-weaker}
-use Rattle.sig_gate_command.proofs.Requests.{one_manifest}
-use Rattle.sig_gate_command.specs.Questions.{AsksFor, artifact_inputs, gate_inputs, inputs_in, inputs_of_all, inputs_under}
-use Rattle.sig_gate_command.specs.Reply.{AreJudged, IsArtifactJudged, IsBundleJudged, IsGateReply, IsReportOf, checker_with}
-use Rattle.sig_gate_command.specs.Request.{IsGateText, IsUnread}
+use Rattle.sig_gate_command.proofs.Replies.{manifest-reply, zip-weaker}
+use Rattle.sig_gate_command.specs.Questions.{artifact_inputs, gate_inputs, inputs_of_all, inputs_under}
+use Rattle.sig_gate_command.specs.Reply.{IsArtifactJudged, IsBundleJudged, IsGateReply, IsReportOf, checker_with}
+use Rattle.sig_gate_command.specs.Request.{IsGateText}
 use Rattle.sig_gate_command.specs.Suffice.{AgreeOnAsked, GateQuestionsSuffice}
 use Rattle.sig_manifest.specs.Artifact.{Asked}
 use Rattle.sig_manifest.specs.Manifest.{Gate}
-use Rattle.sig_manifest.specs.Read.{Parts}
 use Rattle.sig_policy.specs.declared.request.RequestPolicy.{RequestPolicy}
 use Rattle.sig_questions.specs.Asked.{IsAskedBy}
 use Rattle.sig_questions.specs.Questions.{AgreeWhere, HoldsUnasked, QuestionsSuffice, SameLinks, question_links}

@@ -1,6 +1,6 @@
 -- What the bundles ask for is added bundle by bundle and artifact by artifact.
-use Rattle.std.proofs.Common.{◌≡◌, ◌<◌, ◌≤◌, ◌+◌, ◌∙◌, ℕ, Bool, true, false, List, [], ◌∷◌, ◌++◌, length, map, take, drop, get_or, inl, inr}
-use Rattle.std.proofs.Common.{Some, None, Result, Ok, Err, IfOk, ap, arith, refl, subst, sym}
+use Rattle.std.proofs.Common.{◌≡◌, ◌<◌, ◌≤◌, ◌+◌, ◌∙◌, ℕ, ℤ, Bool, true, false, List, [], ◌∷◌, ◌++◌, length, take, drop, get_or, inl, inr}
+use Rattle.std.proofs.Common.{Option, Some, None, Result, Ok, Err, IfOk, ap, arith, refl, subst, sym}
 use Rattle.std.proofs.lemmas.List.{append-nil, append_assoc, take-append-drop, take_all, take_more}
 use Rattle.std.proofs.lemmas.List.Elements.{All-contains_itself, All-weaker}
 use Rattle.std.proofs.lemmas.Result.{IfOk-weaker}
@@ -8,12 +8,13 @@ use Rattle.sig_base.proofs.RuleLaws.{none_fails}
 use Rattle.sig_base.specs.ByText.{text_lookup}
 use Rattle.sig_base.specs.declared.checker.AcceptedRow.{AcceptedRow}
 use Rattle.sig_base.specs.declared.memory.OutOfMemory.{OutOfMemory}
+use Rattle.sig_dsse.specs.declared.artifact_digest.ArtifactDigest.{ArtifactDigest}
 use Rattle.sig_gate_command.proofs.AskedRows.{all-rows-one, bytes-joined, one-rows, rows-cut, rows-joined, rows-single, within-front}
-use Rattle.sig_gate_command.specs.Questions.{AreRows, AreRowsOf, AreWithin, IsQuestionsDocument, artifact_inputs, each_once}
-use Rattle.sig_gate_command.specs.Questions.{gate_inputs, inputs_in, inputs_of_all, inputs_under, most_asked}
+use Rattle.sig_gate_command.specs.AskedRoots.{inputs_at}
+use Rattle.sig_gate_command.specs.Questions.{AreRows, AreWithin, IsQuestionsDocument, artifact_inputs, each_once}
+use Rattle.sig_gate_command.specs.Questions.{inputs_in, inputs_of_all, inputs_under}
 use Rattle.sig_gate_command.specs.RowList.{HasAdded, HasAddedOf, HasAddedRows, HasRoom, IsListSoFar, IsSomeList}
 use Rattle.sig_gate_command.specs.declared.row_list.RowList.{RowList}
-use Rattle.sig_gate.specs.BundleVerdict.{inputs}
 use Rattle.sig_json.specs.Data.{Data, depth}
 use Rattle.sig_json.specs.Document.{document_of}
 use Rattle.sig_json.specs.Read.{max_depth}
@@ -23,14 +24,18 @@ use Rattle.sig_manifest.specs.Artifact.{Asked, artifact_view}
 use Rattle.sig_manifest.specs.Manifest.{Gate, artifacts_view, manifest_view}
 use Rattle.sig_manifest.specs.declared.artifact.Artifact.{Artifact}
 use Rattle.sig_manifest.specs.declared.manifest.Manifest.{Manifest}
+use Rattle.sig_questions.proofs.AskedRoots.{root_refused}
 use Rattle.sig_questions.specs.Asked.{IsAskedBy}
+use Rattle.sig_questions.specs.AskedRoot.{IsAskedRootIn}
 use Rattle.sig_questions.specs.Questions.{AreQuestions, HoldsUnasked, IsDecided, QuestionsAreOneList, QuestionsHaveSchemes, question_links}
 use Rattle.sig_questions.specs.Rows.{HasScheme, bytes_of_rows}
 use Rattle.sig_questions.specs.declared.listing.NoQuestions.TheVariants.{Link as Refused, TooLong}
 use Rattle.sig_reply.proofs.RowsTexts.{list_of-whole, no-brackets}
 use Rattle.sig_reply.specs.RowsText.{IsDocumentOf, rows_text}
 use Rattle.sig_verify.specs.Links.{Inputs}
+use Rattle.sig_verify.specs.Outcome.{inputs_of}
 use Rattle.sig_verify.specs.declared.link.Link.{Link}
+use Rattle.sig_verify.specs.declared.link.Link.TheVariants.{RootJson}
 use Rattle.std.specs.Prelude.{All, Contains, ◌↔◌}
 
 -- ---- a bundle
@@ -49,6 +54,16 @@ module _ (one : QuestionsAreOneList) (i : Inputs) (before : List AcceptedRow) wh
       subst (λ (all : List AcceptedRow). length (rows_text (each_once (before ++ all))) ≤ rows.most) same within.short in
       omega (arith, long, short)
 
+  -- they have more bytes than are left
+  pub bundle-long : (rows : RowList) → IsDecided i rows.left (Err TooLong) → IsListSoFar before rows
+      → HasAdded i before rows false
+  bundle-long rows (links, (asked, are, long)) so_far other (inl its) within =
+      let same = ap bytes_of_rows (one i other asked its.are are) in
+      omega (arith, within.few, bytes-joined before other, same, long, so_far.spent)
+  bundle-long rows (links, (asked, are, long)) so_far other (inr none) within =
+      absurd (none_fails (HoldsUnasked i) question_links none.link links none.fails)
+
+module _ (i : Inputs) (before : List AcceptedRow) where
   -- a link fails whatever is accepted
   pub bundle-refused : (most : ℕ) (link : Link) (rows : RowList) → IsDecided i most (Err (Refused link))
       → IsListSoFar before rows → HasAdded i before rows true
@@ -58,14 +73,11 @@ module _ (one : QuestionsAreOneList) (i : Inputs) (before : List AcceptedRow) wh
     subst (λ (all : List AcceptedRow). IsListSoFar all rows) (sym (append-nil before)) so_far,
   )
 
-  -- they have more bytes than are left
-  pub bundle-long : (rows : RowList) → IsDecided i rows.left (Err TooLong) → IsListSoFar before rows
-      → HasAdded i before rows false
-  bundle-long rows (links, (asked, are, long)) so_far other (inl its) within =
-      let same = ap bytes_of_rows (one i other asked its.are are) in
-      omega (arith, within.few, bytes-joined before other, same, long, so_far.spent)
-  bundle-long rows (links, (asked, are, long)) so_far other (inr none) within =
-      absurd (none_fails (HoldsUnasked i) question_links none.link links none.fails)
+  -- the text of the trusted root is not one
+  pub bundle-unrooted : (rows : RowList) → IsAskedRootIn i.root i.now (Err (Refused RootJson)) → IsListSoFar before rows
+      → HasAdded i before rows true
+  bundle-unrooted rows unread so_far =
+      bundle-refused 0 RootJson rows (root_refused i.root i.bundle i.now i.digest 0 (Refused RootJson) unread) so_far
 
 -- ---- several
 
@@ -116,62 +128,74 @@ pub some-list : (xs : List Inputs) (before : List AcceptedRow) (rows : RowList) 
     → IsSomeList rows
 some-list xs before rows (its, _, listed) = (before ++ its, listed)
 
--- ---- the bundles of an artifact
+-- ---- the bundles of an artifact, under a trusted root at a time
 
-module _ (gate : Gate) (x : Asked) (root : List ℕ) where
-  inputs-joined : (a b : List (List ℕ)) → inputs_in gate x root (a ++ b) ≡ inputs_in gate x root a ++ inputs_in gate x root b
+module _ (root : List ℕ) (now : ℤ) (d : ArtifactDigest) where
+  inputs-joined : (a b : List (List ℕ)) → inputs_at root now d (a ++ b) ≡ inputs_at root now d a ++ inputs_at root now d b
   inputs-joined [] b = refl
-  inputs-joined (bundle ∷ a) b = ap (λ rest. inputs gate x root bundle ∷ rest) (inputs-joined a b)
+  inputs-joined (bundle ∷ a) b = ap (λ rest. inputs_of root now d bundle ∷ rest) (inputs-joined a b)
 
   module _ (bundles : List (List ℕ)) (place : ℕ) (bundle : List ℕ) (below : place < length bundles)
       (is : bundle ≡ get_or bundles place bundle) where
-    pub inputs-more : inputs_in gate x root (take (place + 1) bundles)
-        ≡ inputs_in gate x root (take place bundles) ++ inputs gate x root bundle ∷ []
+    pub inputs-more : inputs_at root now d (take (place + 1) bundles)
+        ≡ inputs_at root now d (take place bundles) ++ inputs_of root now d bundle ∷ []
     inputs-more =
-        ap (inputs_in gate x root) (take_more bundles place bundle below ∙ ap (λ b. take place bundles ++ b ∷ []) (sym is))
+        ap (inputs_at root now d) (take_more bundles place bundle below ∙ ap (λ b. take place bundles ++ b ∷ []) (sym is))
         ∙ inputs-joined (take place bundles) (bundle ∷ [])
 
-    pub inputs-split : inputs_in gate x root bundles
-        ≡ inputs_in gate x root (take place bundles) ++ (inputs gate x root bundle ∷ []
-        ++ inputs_in gate x root (drop (place + 1) bundles))
+    pub inputs-split : inputs_at root now d bundles
+        ≡ inputs_at root now d (take place bundles) ++ (inputs_of root now d bundle ∷ []
+        ++ inputs_at root now d (drop (place + 1) bundles))
     inputs-split =
-        ap (inputs_in gate x root) (sym (take-append-drop (place + 1) bundles))
+        ap (inputs_at root now d) (sym (take-append-drop (place + 1) bundles))
         ∙ inputs-joined (take (place + 1) bundles) (drop (place + 1) bundles)
-        ∙ ap (λ front. front ++ inputs_in gate x root (drop (place + 1) bundles)) inputs-more
-        ∙ append_assoc (inputs_in gate x root (take place bundles)) (inputs gate x root bundle ∷ [])
-        (inputs_in gate x root (drop (place + 1) bundles))
+        ∙ ap (λ front. front ++ inputs_at root now d (drop (place + 1) bundles)) inputs-more
+        ∙ append_assoc (inputs_at root now d (take place bundles)) (inputs_of root now d bundle ∷ [])
+        (inputs_at root now d (drop (place + 1) bundles))
 
     pub bundle-more : QuestionsAreOneList → (before : List AcceptedRow) (old new : RowList)
-        → HasAddedOf (inputs_in gate x root (take place bundles)) before old true
-        → ((so_far : List AcceptedRow) → IsListSoFar so_far old → HasAdded (inputs gate x root bundle) so_far new true)
-        → HasAddedOf (inputs_in gate x root (take (place + 1) bundles)) before new true
+        → HasAddedOf (inputs_at root now d (take place bundles)) before old true
+        → ((so_far : List AcceptedRow) → IsListSoFar so_far old → HasAdded (inputs_of root now d bundle) so_far new true)
+        → HasAddedOf (inputs_at root now d (take (place + 1) bundles)) before new true
     bundle-more one before old new was more =
         subst (λ (is : List Inputs). HasAddedOf is before new true) (sym inputs-more)
-        (joined (inputs_in gate x root (take place bundles)) (inputs gate x root bundle ∷ []) before old new was
-        (λ so_far listed. single (inputs gate x root bundle) so_far new true one (more so_far listed)))
+        (joined (inputs_at root now d (take place bundles)) (inputs_of root now d bundle ∷ []) before old new was
+        (λ so_far listed. single (inputs_of root now d bundle) so_far new true one (more so_far listed)))
 
     pub bundle-past : QuestionsAreOneList → (before : List AcceptedRow) (old new : RowList)
-        → HasAddedOf (inputs_in gate x root (take place bundles)) before old true
-        → ((so_far : List AcceptedRow) → IsListSoFar so_far old → HasAdded (inputs gate x root bundle) so_far new false)
-        → HasAddedOf (inputs_in gate x root bundles) before new false
+        → HasAddedOf (inputs_at root now d (take place bundles)) before old true
+        → ((so_far : List AcceptedRow) → IsListSoFar so_far old → HasAdded (inputs_of root now d bundle) so_far new false)
+        → HasAddedOf (inputs_at root now d bundles) before new false
     bundle-past one before old new was none =
         subst (λ (is : List Inputs). HasAddedOf is before new false) (sym inputs-split)
-        (past one (inputs_in gate x root (take place bundles)) (inputs gate x root bundle ∷ [])
-        (inputs_in gate x root (drop (place + 1) bundles)) before old new was
-        (λ so_far listed. single (inputs gate x root bundle) so_far new false one (none so_far listed)))
+        (past one (inputs_at root now d (take place bundles)) (inputs_of root now d bundle ∷ [])
+        (inputs_at root now d (drop (place + 1) bundles)) before old new was
+        (λ so_far listed. single (inputs_of root now d bundle) so_far new false one (none so_far listed)))
 
   pub bundles-whole : (bundles : List (List ℕ)) (place : ℕ) (before : List AcceptedRow) (rows : RowList)
-      → length bundles ≤ place → HasAddedOf (inputs_in gate x root (take place bundles)) before rows true
-      → HasAddedOf (inputs_in gate x root bundles) before rows true
+      → length bundles ≤ place → HasAddedOf (inputs_at root now d (take place bundles)) before rows true
+      → HasAddedOf (inputs_at root now d bundles) before rows true
   bundles-whole bundles place before rows all is =
-      subst (λ (bs : List (List ℕ)). HasAddedOf (inputs_in gate x root bs) before rows true) (take_all place bundles all) is
+      subst (λ (bs : List (List ℕ)). HasAddedOf (inputs_at root now d bs) before rows true) (take_all place bundles all) is
 
 -- under the trusted root that is named
-pub under-root : (gate : Gate) (x : Asked) (root : List ℕ) (before : List AcceptedRow) (rows : RowList) (added : Bool)
-    → text_lookup x.root gate.roots ≡ Some root → HasAddedOf (inputs_in gate x root x.bundles) before rows added
+pub under-root : (gate : Gate) (x : Asked) (before : List AcceptedRow) (rows : RowList) (added : Bool) (root : List ℕ)
+    → text_lookup x.root gate.roots ≡ Some root
+    → HasAddedOf (inputs_at root gate.now x.digest x.bundles) before rows added
     → HasAddedOf (artifact_inputs gate x) before rows added
-under-root gate x root before rows added named is =
+under-root gate x before rows added root named is =
     subst (λ (is : List Inputs). HasAddedOf is before rows added) (sym (ap (inputs_under gate x) named)) is
+
+-- an artifact without bundles asks for nothing
+pub no-bundles : (gate : Gate) (x : Asked) (before : List AcceptedRow) (rows : RowList) → x.bundles ≡ []
+    → IsListSoFar before rows → HasAddedOf (artifact_inputs gate x) before rows true
+no-bundles gate x before rows empty so_far =
+    subst (λ (is : List Inputs). HasAddedOf is before rows true) (sym (none (text_lookup x.root gate.roots)))
+    (none-yet before rows so_far)
+  where
+    none : (found : Option (List ℕ)) → inputs_under gate x found ≡ []
+    none None = refl
+    none (Some root) = ap (inputs_in gate x root) empty
 
 -- ---- the artifacts
 
@@ -276,6 +300,12 @@ pub all-schemes : QuestionsHaveSchemes → (i : Inputs) (rows shown : List Accep
 all-schemes have i rows shown same are =
     subst (All HasScheme) (sym same)
     (All-weaker (Contains rows) HasScheme (have i rows are) rows (All-contains_itself rows))
+
+-- they have at most as many bytes as are left
+pub all-left : (i : Inputs) (rows shown : List AcceptedRow) (most : ℕ) → shown ≡ rows → IsDecided i most (Ok rows)
+    → bytes_of_rows shown ≤ most
+all-left i rows shown most same decided =
+    subst (λ (all : List AcceptedRow). bytes_of_rows all ≤ most) (sym same) decided.2
 
 pub has-room : (rows : RowList) → IsSomeList rows → HasRoom rows
 has-room rows (before, is) = record {

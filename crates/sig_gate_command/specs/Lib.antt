@@ -1,5 +1,6 @@
 pub mod Request
 pub mod Reply
+pub mod AskedRoots
 pub mod Questions
 pub mod RowList
 pub mod Suffice

@@ -14,6 +14,7 @@
 //! [`gate_questions`] lists the signatures that the reply can rest on, each once. And nothing but these matters.
 #![tactic(auto)]
 
+mod asked_roots;
 pub mod laws;
 mod questions;
 mod reply;

@@ -27,7 +27,7 @@ pub const MOST_ASKED: usize = 67_108_864;
 /// Fails only if out of memory.
 ///
 /// Of two manifests that differ in their accepted signatures alone, and in none of those that are asked for, `gate` has
-/// the same reply. And a list that is written fits one request with the manifest that it is of.
+/// the same reply, also where no list is written. And a list that is written fits one request with the manifest that it is of.
 pub fn gate_questions(alloc: Global, request: &[u8]) -> Result<Reply, OutOfMemory>
     ensures reply { IfOk result (IsGateQuestionsReply request.now) }
     ensures suffice { GateQuestionsSuffice }

@@ -1,39 +1,35 @@
 -- What each call says of the list.
-use Rattle.std.proofs.Common.{◌≡◌, ◌↔◌, ◌⊎◌, ℕ, ℤ, List, Result, Ok, Err, IfOk, OnOk, inl, inr, refl, sym}
+use Rattle.std.proofs.Common.{◌≡◌, ◌↔◌, ◌⊎◌, ℕ, List, Result, Ok, Err, IfOk, OnOk, inl, inr, refl, sym}
 use Rattle.std.proofs.Common.{subst, ◌∙◌}
 use Rattle.std.specs.Prelude.{Contains}
 use Rattle.sig_base.proofs.ResultSteps.{err_is}
 use Rattle.sig_base.specs.Answers.{ComesWhere, UnlessMemory}
-use Rattle.sig_base.specs.Rules.{FailsFirst}
 use Rattle.sig_base.specs.declared.checker.AcceptedRow.{AcceptedRow}
+use Rattle.sig_bundle.specs.BundleRecord.{bundle_in}
+use Rattle.sig_bundle.specs.declared.bundle.Bundle.{Bundle}
 use Rattle.sig_checked_bundle.specs.Checked.{Checked, IsChecked}
 use Rattle.sig_checked_bundle.specs.Passed.{IsPassed}
-use Rattle.sig_bundle.specs.declared.bundle.Bundle.{Bundle}
 use Rattle.sig_checked_bundle.specs.declared.bundle_error.BundleErrorKind.{BundleErrorKind}
 use Rattle.sig_checked_bundle.specs.declared.bundle_error.BundleErrorKind.TheVariants as bundle
 use Rattle.sig_dsse.specs.declared.artifact_digest.ArtifactDigest.{ArtifactDigest}
-use Rattle.sig_bundle.specs.BundleRecord.{bundle_in}
 use Rattle.sig_json.specs.declared.error.JsonError.{JsonError}
 use Rattle.sig_json.specs.declared.error.JsonError.TheVariants as json
 use Rattle.sig_root.specs.RootRecord.{trusted_root_in}
 use Rattle.sig_root.specs.declared.record.TrustedRoot.{TrustedRoot}
-use Rattle.sig_verify.proofs.OfflineBytes.{inputs}
 use Rattle.sig_verify.specs.EntryLinks.{IsOfBytes}
 use Rattle.sig_verify.specs.LinkLaws.{IsReadCertificate}
 use Rattle.sig_verify.specs.Links.{Inputs}
-use Rattle.sig_verify.specs.declared.link.Link.TheVariants.{RootJson, BundleJson}
+use Rattle.sig_verify.specs.declared.link.Link.TheVariants.{BundleJson}
 use Rattle.sig_questions.proofs.QuestionCounts.{questions_few}
 use Rattle.sig_questions.proofs.SufficientLists.{rows_suffice}
 use Rattle.sig_questions.specs.Asked.{IsAskedBy}
 use Rattle.sig_questions.specs.Few.{AreFewQuestions}
-use Rattle.sig_questions.specs.Front.{IsFrontTold, unread}
-use Rattle.sig_questions.specs.Listed.{AreListed, AreListedOf, AreListedText, GivesTrust, IsAnswered}
-use Rattle.sig_questions.specs.Listed.{ListedTextsAreAnswered, Listing, ReadIfOk, trust_in}
+use Rattle.sig_questions.specs.Front.{unread}
+use Rattle.sig_questions.specs.Listed.{AreListed, AreListedUnder, IsAnswered, Listing, ReadIfOk, trust_in}
 use Rattle.sig_questions.specs.Order.{AreInOrder, IsAskedAt}
-use Rattle.sig_questions.specs.Questions.{AreQuestions, HoldsUnasked, IsDecided, QuestionsSuffice, Suffices}
-use Rattle.sig_questions.specs.Questions.{question_links}
+use Rattle.sig_questions.specs.Questions.{AreQuestions, IsDecided, QuestionsSuffice, Suffices}
 use Rattle.sig_questions.specs.declared.listing.NoQuestions.{NoQuestions}
-use Rattle.sig_questions.specs.declared.listing.NoQuestions.TheVariants.{Link, TooLong, OutOfMemory}
+use Rattle.sig_questions.specs.declared.listing.NoQuestions.TheVariants.{OutOfMemory}
 use Rattle.sig_questions.specs.declared.trust.TrustParts.{TrustParts}
 
 read_of : (parts : TrustParts) (c : Checked) (result : Listing) → OnOk result (IsReadCertificate c)
@@ -51,17 +47,16 @@ passed_refused b error comes (c, passed) = elim ((comes c).1 passed) [
 ]
 
 -- of a bundle that was checked
-pub checked_listed : ((b : Bundle) (c : Checked) → IsChecked b (Ok c) ↔ IsPassed b c) → (root : TrustedRoot)
-    (now time : ℤ) (d : ArtifactDigest) (b : Bundle) (most : ℕ) (parts : TrustParts) (c : Checked) (result : Listing)
-    → time ≡ now → GivesTrust root time parts
+pub checked_listed : ((b : Bundle) (c : Checked) → IsChecked b (Ok c) ↔ IsPassed b c) → (d : ArtifactDigest)
+    (b : Bundle) (most : ℕ) (parts : TrustParts) (c : Checked) (result : Listing)
     → (◌≡◌ {A = Result Checked BundleErrorKind} (Ok c) (Err bundle.OutOfMemory)) ⊎ IsChecked b (Ok c)
     → AreListed d (trust_in parts) parts.log_keys c most result → OnOk result (IsReadCertificate c)
     → OnOk result (IsOfBytes parts.log_keys c.entry)
-    → UnlessMemory OutOfMemory result (AreListedOf root now d b most result)
-checked_listed law root now time d b most parts c result same gives (inl memory) listed read bytes = absurd cc
-checked_listed law root now time d b most parts c result same gives (inr checked) listed read bytes = inr (record {
+    → UnlessMemory OutOfMemory result (AreListedUnder parts d b most result)
+checked_listed law d b most parts c result (inl memory) listed read bytes = absurd cc
+checked_listed law d b most parts c result (inr checked) listed read bytes = inr (λ root now gives. record {
   parts = parts;
-  gives = subst (λ (t : ℤ). GivesTrust root t parts) same gives;
+  gives = gives;
   checked = c;
   passed = (law b c).0 checked;
   listed = listed;
@@ -70,22 +65,12 @@ checked_listed law root now time d b most parts c result same gives (inr checked
 
 -- ---- all of it
 
-nothing_told : (i : Inputs) (most : ℕ) (result : Listing) → result ≡ Err OutOfMemory → IsAnswered i most result
+pub nothing_told : (i : Inputs) (most : ℕ) (result : Listing) → result ≡ Err OutOfMemory → IsAnswered i most result
 nothing_told i most result memory = record {
   asked = λ rows same. absurd (let wrong : ◌≡◌ {A = Listing} (Ok rows) (Err OutOfMemory) = sym same ∙ memory in cc);
   ordered = λ rows same. absurd (let wrong : ◌≡◌ {A = Listing} (Ok rows) (Err OutOfMemory) = sym same ∙ memory in cc);
   decided = subst (λ (r : Listing). IsDecided i most r) (sym memory) tt;
 }
-
-pub all_told : ListedTextsAreAnswered → (root : List ℕ) (now time : ℤ) (d : ArtifactDigest) (bundle : List ℕ)
-    (most : ℕ) (result : Listing) → time ≡ now → IsFrontTold (inputs root time d bundle) (Ok tt)
-    → UnlessMemory OutOfMemory result (AreListedText root time d bundle most result)
-    → IsAnswered (inputs root now d bundle) most result
-all_told law root now time d bundle most result same front (inl memory) =
-    nothing_told (inputs root now d bundle) most result memory
-all_told law root now time d bundle most result same front (inr listed) =
-    subst (λ (t : ℤ). IsAnswered (inputs root t d bundle) most result) same
-    (law (inputs root time d bundle) most result front listed)
 
 if_ok : (result : Listing) (P : List AcceptedRow → Type 0) → ((rows : List AcceptedRow) → result ≡ Ok rows → P rows)
     → IfOk result P
@@ -117,21 +102,6 @@ module _ (i : Inputs) (most : ℕ) (result : Listing) (told : IsAnswered i most 
   pub told_places : IfOk result (AreInOrder (IsAskedAt i))
   told_places = if_ok result (AreInOrder (IsAskedAt i)) told.ordered
 
--- what is listed of a root and of a bundle is listed of the texts that they are
-pub texts_listed : (root_text : List ℕ) (root : TrustedRoot) (now : ℤ) (d : ArtifactDigest) (text : List ℕ) (b : Bundle)
-    (most : ℕ) (result : Listing) → trusted_root_in root_text ≡ Ok root → bundle_in text ≡ Ok b
-    → UnlessMemory OutOfMemory result (AreListedOf root now d b most result)
-    → UnlessMemory OutOfMemory result (AreListedText root_text now d text most result)
-texts_listed root_text root now d text b most result root_is bundle_is (inl memory) = inl memory
-texts_listed root_text root now d text b most result root_is bundle_is (inr listed) =
-    inr (root, root_is, (b, bundle_is, listed))
-
--- at the time that was handed in
-pub at_time : (root : List ℕ) (now time : ℤ) (d : ArtifactDigest) (bundle : List ℕ) (most : ℕ) (result : Listing)
-    → time ≡ now → IsAnswered (inputs root time d bundle) most result → IsAnswered (inputs root now d bundle) most result
-at_time root now time d bundle most result same told =
-    subst (λ (t : ℤ). IsAnswered (inputs root t d bundle) most result) same told
-
 -- no questions
 pub none_told : (i : Inputs) (most : ℕ) (e : NoQuestions) → IsDecided i most (Err e) → IsAnswered i most (Err e)
 none_told i most e decided = record {
@@ -140,15 +110,7 @@ none_told i most e decided = record {
   decided = decided;
 }
 
--- a text that was not read
-pub root_unread : (i : Inputs) (most : ℕ) (error : JsonError)
-    → (error ≡ json.OutOfMemory) ⊎ (trusted_root_in i.root ≡ Err error)
-    → IsDecided i most (Err (unread RootJson error))
-root_unread i most json.OutOfMemory why = tt
-root_unread i most error (inl memory) = absurd cc
-root_unread i most error (inr is) =
-    inl ((λ of. let wrong : ◌≡◌ {A = Result TrustedRoot JsonError} (Err error) (Ok of.0) = sym is ∙ of.1 in cc), refl)
-
+-- a text of a bundle that was not read
 pub bundle_unread : (i : Inputs) (most : ℕ) (root : TrustedRoot) (error : JsonError) → trusted_root_in i.root ≡ Ok root
     → (error ≡ json.OutOfMemory) ⊎ (bundle_in i.bundle ≡ Err error)
     → IsDecided i most (Err (unread BundleJson error))
@@ -161,11 +123,3 @@ bundle_unread i most root error root_is (inr is) = inr (
     refl,
   ),
 )
-
--- a link of those before `issuer`
-pub front_decided : (root : List ℕ) (now time : ℤ) (d : ArtifactDigest) (bundle : List ℕ) (most : ℕ) (e : NoQuestions)
-    → time ≡ now → IsFrontTold (inputs root time d bundle) (Err e) → IsDecided (inputs root now d bundle) most (Err e)
-front_decided root now time d bundle most (Link link) same told =
-    subst (λ (t : ℤ). FailsFirst (HoldsUnasked (inputs root t d bundle)) question_links link) same told
-front_decided root now time d bundle most TooLong same told = absurd told
-front_decided root now time d bundle most OutOfMemory same told = tt

@@ -1,6 +1,5 @@
 -- The links before `issuer`, which ask for no signature, and the links that fail whatever the checker says.
-use Rattle.std.proofs.Common.{◌≡◌, ◌≢◌, ◌⊎◌, ◌↔◌, ℕ, ℤ, Bool, true, false, List, [], ◌∷◌, ◌++◌, Option, Some, Result, Err}
-use Rattle.std.proofs.Common.{Ok}
+use Rattle.std.proofs.Common.{◌≡◌, ◌↔◌, ℕ, Bool, true, false, List, [], ◌∷◌, ◌++◌, Option, Some, Result, Err, Ok}
 use Rattle.std.proofs.Common.{inl, inr, refl, sym, ap, subst, ◌∙◌}
 use Rattle.std.specs.List.{AllByRecursion}
 use Rattle.sig_base.proofs.ResultSteps.{err_is}
@@ -9,40 +8,36 @@ use Rattle.sig_base.specs.Rules.{FailsFirst}
 use Rattle.sig_bundle.specs.BundleRecord.{bundle_in}
 use Rattle.sig_bundle.specs.declared.bundle.Bundle.{Bundle}
 use Rattle.sig_certificate.specs.Certificate.{Cert}
-use Rattle.sig_checked_bundle.specs.Checked.{Checked}
-use Rattle.sig_checked_bundle.specs.OfBytes.{HasCertificateOfBytes}
-use Rattle.sig_checked_bundle.specs.Passed.{IsPassed}
+use Rattle.sig_checked_bundle.proofs.Certificates.{OneCertificate}
 use Rattle.sig_dsse.specs.declared.artifact_digest.ArtifactDigest.{ArtifactDigest}
-use Rattle.sig_json.specs.declared.error.JsonError.{JsonError}
 use Rattle.sig_policy.specs.Refusals.{not_found}
-use Rattle.sig_root.specs.OfBytes.{HasRawBytes}
 use Rattle.sig_root.specs.RootRecord.{trusted_root_in}
 use Rattle.sig_root.specs.declared.record.TrustedRoot.{TrustedRoot}
-use Rattle.sig_verify.proofs.JudgedLaws.{Alike, all_as}
-use Rattle.sig_verify.proofs.OfflineBytes.{are_read, bundle_bytes, inputs}
-use Rattle.sig_verify.specs.CertificateLinks.{HasIssuer}
-use Rattle.sig_verify.specs.Judged.{IsOfFirst, Judged}
-use Rattle.sig_verify.specs.Links.{HoldsOf, Inputs, OfPassed, Outside, chain_links}
-use Rattle.sig_verify.specs.OfflineErrors.{link_of}
-use Rattle.sig_verify.specs.OfflineLaws.{HasEntryOfBytes, OutcomesAreJudged}
-use Rattle.sig_verify.specs.OfflineVerdict.{AfterRead, IsOfflineIn, IsOfflineOf}
-use Rattle.sig_verify.specs.RootLinks.{IsSomeAnchor, authorities, ct_keys}
+use Rattle.sig_verify.proofs.JudgedLaws.{Alike, all_as, all_joined, fails_as, fails_behind, fails_front}
+use Rattle.sig_verify.proofs.LinkGroups.{roots_alike, verified_alike}
+use Rattle.sig_verify.proofs.Parts.{checked_as, of_checked}
+use Rattle.sig_verify.specs.BundleLinks.{bundle_links}
+use Rattle.sig_verify.specs.CertificateLinks.{HasIssuer, Trust, certificate_links}
+use Rattle.sig_verify.specs.LinkLaws.{HoldsOfVerified, trust_of}
+use Rattle.sig_verify.specs.Links.{HoldsOf, Inputs, Outside, chain_links}
+use Rattle.sig_verify.specs.OfflineErrors.{link_of, of_verification}
+use Rattle.sig_verify.specs.OfflineVerdict.{authorities_of, ct_keys_of}
+use Rattle.sig_verify.specs.Outcome.{ShowsFirstOfBundle}
+use Rattle.sig_verify.specs.RootLinks.{HoldsOfRoot, root_links}
+use Rattle.sig_verify.specs.Verdict.{Answer}
+use Rattle.sig_verify.specs.Verifier.{IsVerifierOf, Trusted}
+use Rattle.sig_verify.specs.declared.error.VerificationError.{VerificationError}
+use Rattle.sig_verify.specs.declared.error.VerificationError.TheVariants.{OutOfMemory}
 use Rattle.sig_verify.specs.declared.link.Link.{Link}
-use Rattle.sig_verify.specs.declared.link.Link.TheVariants.{Issuance, Issuer, Sct, Policy, Key, Signature, Subject, Body, Time}
-use Rattle.sig_verify.specs.declared.link.Link.TheVariants.{LogKey, Promise, Proof, Checkpoint, NoteKey, NoteMatch}
-use Rattle.sig_verify.specs.declared.link.Link.TheVariants.{Inclusion}
-use Rattle.sig_verify.specs.declared.logged_entry.LoggedEntry.{LoggedEntry}
-use Rattle.sig_verify.specs.declared.offline_error.OfflineError.{OfflineError}
-use Rattle.sig_verify.specs.declared.offline_error.OfflineError.TheVariants.{OutOfMemory}
-use Rattle.sig_verify.specs.declared.offline_error.Part.TheVariants.{Root as RootText, Bundle as BundleText}
-use Rattle.sig_x509.specs.Issued.{HasProfile}
+use Rattle.sig_verify.specs.declared.link.Link.TheVariants.{RootJson, BundleJson, Issuer, Sct, Policy, Key, Signature}
+use Rattle.sig_verify.specs.declared.link.Link.TheVariants.{Subject, Body, Time, LogKey, Promise, Proof, Checkpoint}
+use Rattle.sig_verify.specs.declared.link.Link.TheVariants.{NoteKey, NoteMatch, Inclusion}
 use Rattle.sig_x509.specs.Pool.{Pool, pool_over}
+use Rattle.sig_x509.specs.Path.{every_signature}
 use Rattle.sig_questions.proofs.Issuers.{first_signed, some_issuer, would_hold}
 use Rattle.sig_questions.specs.Asked.{issuer_in}
-use Rattle.sig_verify.proofs.Parts.{bundle_from, checked_as, of_checked, root_from}
-use Rattle.sig_x509.specs.Path.{every_signature}
-use Rattle.sig_questions.specs.Front.{HasTrust, IsFrontTold, IsPassedBundle, front_result}
-use Rattle.sig_questions.specs.Questions.{FailsFirstInChain, HoldsUnasked, RefusalsAreForAll, accepting, front_links}
+use Rattle.sig_questions.specs.Front.{HoldsOfUnasked, IsFrontTold, bundle_front, front_result}
+use Rattle.sig_questions.specs.Questions.{HoldsUnasked, RefusalsAreForAll, accepting, front_links, question_links}
 
 -- ---- rules up to one
 
@@ -87,10 +82,6 @@ abbrev pub after_issuer : List Link
 after_issuer =
     Sct ∷ Policy ∷ Key ∷ Signature ∷ Subject ∷ Body ∷ Time
     ∷ LogKey ∷ Promise ∷ Proof ∷ Checkpoint ∷ NoteKey ∷ NoteMatch ∷ Inclusion ∷ []
-
-apart : AllByRecursion (λ (l : Link). is_issuer l ≡ false) front_links
-apart =
-    (refl, (refl, (refl, (refl, (refl, (refl, (refl, (refl, (refl, (refl, (refl, (refl, (refl, (refl, tt))))))))))))))
 
 same : {A : Type 0} → A ↔ A
 same = ((λ x. x), (λ x. x))
@@ -146,75 +137,104 @@ refusals_for_all i link = (
       (subst (λ (l : Link). FailsFirst (HoldsUnasked i) chain_links l) is (all accepting))) (all denying)),
 )
 
--- ---- what is told of them
+-- ---- the links of a bundle, under what a verifier trusts
 
-module _ (o : Outside) (i : Inputs) where
-  told_link : ¬ HoldsOf o i Issuer → (link : Link) → FailsFirstInChain o i link
-      → IsFrontTold i (front_result (Some link))
-  told_link denied Issuer fails =
-      all_as (HoldsOf o i) (HoldsUnasked i) front_links (front_alike o accepting i)
-      (held_before (HoldsOf o i) front_links after_issuer apart fails)
-  told_link denied link fails =
-      among_first (HoldsUnasked i) (HoldsOf o i) front_links after_issuer Issuer link (front_alike accepting o i)
-      denied
-      (λ is p. cc) fails
+-- those after `issuer`
+abbrev bundle_rest : List Link
+bundle_rest = Sct ∷ Policy ∷ Key ∷ Signature ∷ Subject ∷ Body ∷ Time ∷ []
 
-abbrev Outcome : Type 0
-Outcome = Result LoggedEntry OfflineError
+apart : AllByRecursion (λ (l : Link). is_issuer l ≡ false) bundle_front
+apart = (refl, (refl, (refl, (refl, (refl, (refl, (refl, (refl, (refl, tt)))))))))
 
--- what the error of the first link that fails says, under a checker that accepts no certificate
-pub front_told : (o : Outside) (root : List ℕ) (now time : ℤ) (d : ArtifactDigest) (bundle : List ℕ)
-    (error : OfflineError) → time ≡ now
-    → ((issuer algorithm tbs signature : List ℕ) → o.checker.cert issuer algorithm tbs signature ≡ false)
-    → (◌≡◌ {A = Outcome} (Err error) (Err OutOfMemory)) ⊎ IsOfFirst
-    (HoldsOf o (inputs root time d bundle)) chain_links error
-    → IsFrontTold (inputs root now d bundle) (front_result (link_of error))
-front_told o root now time d bundle error at denied (inl memory) =
-    subst (λ (e : OfflineError). IsFrontTold (inputs root now d bundle) (front_result (link_of e)))
-    (sym (err_is error OutOfMemory memory)) tt
-front_told o root now time d bundle error at denied (inr (link, is, fails)) =
-    subst (λ (l : Option Link). IsFrontTold (inputs root now d bundle) (front_result l)) (sym is)
-    (subst (λ (t : ℤ). IsFrontTold (inputs root t d bundle) (front_result (Some link))) at
-    (told_link o (inputs root time d bundle) (silent o (inputs root time d bundle) denied) link fails))
+abbrev OfBundle : Outside → Trusted → ArtifactDigest → Bundle → Link → Type 0
+OfBundle o trusted d b = HoldsOfVerified o.checker o.policy (trust_of trusted) d true b
 
--- no link before `issuer` asks a checker, and that one does not hold: not all hold
-pub never_all : (o : Outside) (i : Inputs) (offline : LoggedEntry)
-    → ((issuer algorithm tbs signature : List ℕ) → o.checker.cert issuer algorithm tbs signature ≡ false)
-    → UnlessMemory OutOfMemory (Ok offline) (Judged (HoldsOf o i) chain_links (Ok offline)) → ⊥
-never_all o i offline denied (inl memory) = absurd (let wrong : ◌≡◌ {A = Outcome} (Ok offline) (Err OutOfMemory) = memory in cc)
-never_all o i offline denied (inr all) = silent o i denied all.1.1.1.1.1.1.1.1.1.1.1.1.1.1.0
+-- no checker is asked
+bundle_alike : (o p : Outside) (trusted : Trusted) (d : ArtifactDigest) (b : Bundle)
+    → Alike (OfBundle o trusted d b) (OfBundle p trusted d b) bundle_front
+bundle_alike o p trusted d b = (same, (same, (same, (same, (same, (same, (same, (same, (same, tt)))))))))
 
--- what the links before `issuer` say of the root and the bundle that the texts are
-pub front_trust : (i : Inputs) (root : TrustedRoot) → trusted_root_in i.root ≡ Ok root
-    → AllByRecursion (HoldsUnasked i) front_links → HasTrust root i.now
-front_trust i root root_is front = record {
-  some = root_from i root root_is (λ r. authorities r i.now ≢ []) front.1.1.0;
-  anchors = root_from i root root_is (λ r. AllByRecursion IsSomeAnchor (authorities r i.now)) front.1.1.1.0;
-  keys = root_from i root root_is (λ r. ct_keys r i.now ≢ []) front.1.1.1.1.0;
-}
+module _ (o : Outside) (trusted : Trusted) (d : ArtifactDigest) (b : Bundle)
+    (denied : (issuer algorithm tbs signature : List ℕ) → o.checker.cert issuer algorithm tbs signature ≡ false) where
+  -- a checker that accepts no certificate has no issuer
+  silent_bundle : ¬ OfBundle o trusted d b Issuer
+  silent_bundle (checked, passed, of) =
+      let c : Cert = checked.certificate in
+      let path = of.first.path in
+      let signed = first_signed o.checker.cert c path.over path.anchor path.path.signed in
+      let wrong : true ≡ false = sym signed.genuine
+      ∙ denied (issuer_in path.over path.anchor).spki c.algorithm c.tbs c.signature in cc
 
-pub front_passed : (i : Inputs) (b : Bundle) → bundle_in i.bundle ≡ Ok b
-    → AllByRecursion (HoldsUnasked i) front_links → IsPassedBundle b
-front_passed i b bundle_is front =
-    let issuance : HoldsUnasked i Issuance = front.1.1.1.1.1.1.1.1.1.1.1.1.1.0 in
-    let of : OfPassed i (λ c. HasProfile c.certificate) = issuance.2.2 in
-    let its = bundle_from i b bundle_is (λ b. (c : Checked) × IsPassed b c × HasProfile c.certificate) of in
-    (its.0, its.1)
+  told_link : (link : Link) → FailsFirst (OfBundle o trusted d b) (bundle_links ++ certificate_links) link
+      → IsFrontTold trusted d b (front_result (Some link))
+  told_link Issuer fails =
+      all_as (OfBundle o trusted d b) (HoldsOfUnasked trusted d b) bundle_front
+      (bundle_alike o accepting trusted d b)
+      (held_before (OfBundle o trusted d b) bundle_front bundle_rest apart fails)
+  told_link link fails =
+      among_first (HoldsOfUnasked trusted d b) (OfBundle o trusted d b) bundle_front bundle_rest Issuer link
+      (bundle_alike accepting o trusted d b) silent_bundle (λ is p. cc) fails
 
--- what the steps say of a root and a bundle that were read, they say of the links of their texts
-pub parts_told : OutcomesAreJudged → (o : Outside) (root_text : List ℕ) (root : TrustedRoot) (now : ℤ)
-    (d : ArtifactDigest) (text : List ℕ) (b : Bundle) (result : Outcome) → trusted_root_in root_text ≡ Ok root
-    → bundle_in text ≡ Ok b → AllByRecursion HasRawBytes root.tlogs → HasCertificateOfBytes b → HasEntryOfBytes b
-    → UnlessMemory OutOfMemory result (IsOfflineOf o.checker o.policy root now d b result)
-    → UnlessMemory OutOfMemory result (Judged (HoldsOf o (inputs root_text now d text)) chain_links result)
-parts_told law o root_text root now d text b result root_is bundle_is keys certificate entry (inl memory) = inl memory
-parts_told law o root_text root now d text b result root_is bundle_is keys certificate entry (inr is) =
-    elim (law o (inputs root_text now d text)
-    (are_read (inputs root_text now d text) root root_is keys (bundle_bytes text b bundle_is certificate entry)) result
-    (subst (λ (found : Result TrustedRoot JsonError). AfterRead RootText found
-    (λ r. IsOfflineIn o.checker o.policy r now d text) result) (sym root_is)
-    (subst (λ (found : Result Bundle JsonError). AfterRead BundleText found (IsOfflineOf o.checker o.policy root now d)
-    result) (sym bundle_is) is))) [
-      | inl memory ↦ inl memory
-      | inr all ↦ inr all.judged
-    ]
+  -- what the error of the first link that fails says
+  pub front_told : (error : VerificationError) → (let answer : Answer = Err error in
+      UnlessMemory OutOfMemory answer (ShowsFirstOfBundle o trusted d true b answer))
+      → IsFrontTold trusted d b (front_result (link_of (of_verification error)))
+  front_told error (inl memory) =
+      subst (λ (e : VerificationError). IsFrontTold trusted d b (front_result (link_of (of_verification e))))
+      (sym (err_is error OutOfMemory memory)) tt
+  front_told error (inr (link, is, fails)) =
+      subst (λ (l : Option Link). IsFrontTold trusted d b (front_result l)) (sym is) (told_link link fails)
+
+  -- not all hold
+  pub never_all : (done : Unit {0}) → (let answer : Answer = Ok done in
+      UnlessMemory OutOfMemory answer (ShowsFirstOfBundle o trusted d true b answer)) → ⊥
+  never_all done (inl memory) = absurd (let wrong = memory in cc)
+  never_all done (inr all) = silent_bundle all.1.1.1.1.1.1.1.1.1.0
+
+-- ---- the links of the texts of a root and of a bundle
+
+all_front : (P : Link → Type 0) (xs ys : List Link) → AllByRecursion P (xs ++ ys) → AllByRecursion P xs
+all_front P [] ys all = tt
+all_front P (x ∷ xs) ys all = (all.0, all_front P xs ys all.1)
+
+module _ (i : Inputs) (root : TrustedRoot) (root_is : trusted_root_in i.root ≡ Ok root) (b : Bundle)
+    (bundle_is : bundle_in i.bundle ≡ Ok b) where
+  abbrev rest_links : List Link
+  rest_links = bundle_front ++ Issuer ∷ []
+
+  texts_hold : AllByRecursion (HoldsUnasked i) (RootJson ∷ BundleJson ∷ [])
+  texts_hold = ((root, root_is, tt), ((b, bundle_is, tt), tt))
+
+  pub root_fails : (link : Link) → FailsFirst (HoldsOfRoot root i.now) root_links link
+      → FailsFirst (HoldsUnasked i) question_links link
+  root_fails link fails =
+      fails_behind (HoldsUnasked i) (RootJson ∷ BundleJson ∷ []) (root_links ++ rest_links) link texts_hold
+      (fails_front (HoldsUnasked i) root_links rest_links link
+      (fails_as (HoldsOfRoot root i.now) (HoldsUnasked i) root_links link (roots_alike accepting i root root_is) fails))
+
+  module _ (one : OneCertificate) (trusted : Trusted)
+      (is : IsVerifierOf (authorities_of root i.now) (ct_keys_of root i.now) trusted)
+      (links : AllByRecursion (HoldsOfRoot root i.now) root_links) where
+    root_holds : AllByRecursion (HoldsUnasked i) (RootJson ∷ BundleJson ∷ root_links)
+    root_holds =
+        all_joined (HoldsUnasked i) (RootJson ∷ BundleJson ∷ []) root_links texts_hold
+        (all_as (HoldsOfRoot root i.now) (HoldsUnasked i) root_links (roots_alike accepting i root root_is) links)
+
+    rest_alike : Alike (HoldsOfUnasked trusted i.digest b) (HoldsUnasked i) rest_links
+    rest_alike =
+        all_front (λ l. HoldsOfUnasked trusted i.digest b l ↔ HoldsUnasked i l) rest_links bundle_rest
+        (verified_alike accepting i root root_is b bundle_is one trusted is)
+
+    pub all_hold : AllByRecursion (HoldsOfUnasked trusted i.digest b) bundle_front
+        → AllByRecursion (HoldsUnasked i) front_links
+    all_hold all =
+        all_joined (HoldsUnasked i) (RootJson ∷ BundleJson ∷ root_links) bundle_front root_holds
+        (all_as (HoldsOfUnasked trusted i.digest b) (HoldsUnasked i) bundle_front
+        (all_front (λ l. HoldsOfUnasked trusted i.digest b l ↔ HoldsUnasked i l) bundle_front (Issuer ∷ []) rest_alike)
+        all)
+
+    pub first_fails : (link : Link) → FailsFirst (HoldsOfUnasked trusted i.digest b) rest_links link
+        → FailsFirst (HoldsUnasked i) question_links link
+    first_fails link fails =
+        fails_behind (HoldsUnasked i) (RootJson ∷ BundleJson ∷ root_links) rest_links link root_holds
+        (fails_as (HoldsOfUnasked trusted i.digest b) (HoldsUnasked i) rest_links link rest_alike fails)

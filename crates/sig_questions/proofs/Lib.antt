@@ -19,6 +19,7 @@ pub mod Fronts
 pub mod LogKeyRows
 pub mod Trusts
 pub mod Calls
+pub mod AskedRoots
 pub mod Orderings
 pub mod LinkOrder
 pub mod OrderRows

@@ -11,8 +11,8 @@ use Rattle.sig_certificate.specs.Certificate.{Cert}
 use Rattle.sig_checked_bundle.specs.Checked.{Checked}
 use Rattle.sig_verify.specs.CertificateLinks.{Trust}
 use Rattle.sig_x509.specs.Pool.{present}
-use Rattle.sig_questions.specs.Lists.{Pair, Side, pairs, signers}
-use Rattle.sig_questions.specs.Places.{IsPairAt, IsSignedAt, IsSignerAt, PairsAreInOrder, SignersAreInOrder}
+use Rattle.sig_questions.specs.Lists.{Side, signers}
+use Rattle.sig_questions.specs.Places.{IsSignedAt, IsSignerAt, PairsAreInOrder, SignersAreInOrder}
 
 -- ---- an element of a list that is two, or whose elements were made
 

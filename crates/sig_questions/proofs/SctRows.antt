@@ -8,6 +8,7 @@ use Rattle.sig_base.proofs.ResultSteps.{ok_is}
 use Rattle.sig_base.specs.Answers.{Answers}
 use Rattle.sig_base.specs.declared.checker.AcceptedRow.{AcceptedRow}
 use Rattle.sig_certificate.specs.Certificate.{Cert}
+use Rattle.sig_base.specs.Sha256.{sha256}
 use Rattle.sig_timestamp.proofs.EmbeddedLaws.{embedded}
 use Rattle.sig_timestamp.specs.Embedded.{IsSaidOf, ready}
 use Rattle.sig_timestamp.specs.Precert.{precertificate}
@@ -89,7 +90,7 @@ module _ (points : List ℕ → Option (List ℕ)) (c : Cert) (said : IsSaidOf c
   -- each SCT of the certificate is the one that was read
   read_of : (t : SctType) → HasSct c t
       → Answers OutOfMemory (λ (d : DigitallySigned). d) (ready c x.spki (sct_of c)) (Ok (signed_of c x.spki t))
-  read_of t has = (embedded c x.spki (ready c x.spki (sct_of c)) (itself (ready c x.spki (sct_of c))) said).has t has
+  read_of t has = (embedded c (sha256 x.spki) (ready c x.spki (sct_of c)) (itself (ready c x.spki (sct_of c))) said).has t has
 
   of_read : (r : Result SctType CertificateErrorKind) → sct_of c ≡ r → IsSaidOf c r
       → Contains (embedded_questions points (ready c x.spki r)) row ↔ OfSct c IsOf

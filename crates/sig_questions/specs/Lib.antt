@@ -6,6 +6,7 @@ pub mod Questions
 pub mod Few
 pub mod Matters
 pub mod Listed
+pub mod AskedRoot
 pub mod Front
 pub mod Order
 pub mod Places

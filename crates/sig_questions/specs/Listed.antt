@@ -65,6 +65,11 @@ pub record AreListedOf (root : TrustedRoot) (now : ℤ) (d : ArtifactDigest) (b 
   pub listed : AreListed d (trust_in parts) parts.log_keys checked most result
   pub read : ReadIfOk parts checked result
 
+-- whatever root gives this
+abbrev pub AreListedUnder : TrustParts → ArtifactDigest → Bundle → ℕ → Listing → Type 0
+AreListedUnder parts d b most result =
+    (root : TrustedRoot) (now : ℤ) → GivesTrust root now parts → AreListedOf root now d b most result
+
 abbrev pub AreListedIn : TrustedRoot → ℤ → ArtifactDigest → List ℕ → ℕ → Listing → Type 0
 AreListedIn root now d text most result = (b : Bundle) × (bundle_in text ≡ Ok b) × AreListedOf root now d b most result
 

@@ -1,5 +1,5 @@
 -- *Places of the questions*: which signature is asked of at each place, and under whose key.
-use Rattle.std.specs.Prelude.{◌≡◌, ◌↔◌, ℕ, ◌+◌, ◌*◌, Bool, true, false, List, length, Option, Some, None, slice_get}
+use Rattle.std.specs.Prelude.{◌≡◌, ◌↔◌, ℕ, ◌+◌, ◌*◌, Bool, true, false, length, Option, Some, None, slice_get}
 use Rattle.sig_certificate.specs.Certificate.{Cert}
 use Rattle.sig_checked_bundle.specs.Checked.{Checked}
 use Rattle.sig_verify.specs.CertificateLinks.{Trust}

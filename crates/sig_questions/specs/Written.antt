@@ -1,14 +1,17 @@
 -- What a step that adds rows does: all of its rows are added, or there was no room for them, or memory ran out.
-use Rattle.std.specs.Prelude.{◌≡◌, ℕ, ◌+◌, ◌<◌, List, ◌++◌, flat_map, Option, Result, Ok, Err}
+use Rattle.std.specs.Prelude.{◌≡◌, ℕ, ◌+◌, ◌<◌, List, [], ◌∷◌, ◌++◌, flat_map, Option, Result, Ok, Err}
+use Rattle.std.specs.Borrow.{Bor}
 use Rattle.sig_base.specs.declared.checker.AcceptedRow.{AcceptedRow}
-use Rattle.sig_x509.specs.Possible.{seen_signed, seen_signer}
+use Rattle.sig_certificate.specs.Certificate.{Cert}
 use Rattle.sig_checked_bundle.specs.Checked.{Checked}
 use Rattle.sig_dsse.specs.declared.artifact_digest.ArtifactDigest.{ArtifactDigest}
+use Rattle.sig_timestamp.specs.Embedded.{ready}
 use Rattle.sig_timestamp.specs.RingKey.{point_at}
+use Rattle.sig_timestamp.specs.Timestamps.{sct_of}
 use Rattle.sig_x509.specs.declared.possible.PossiblePaths.{PossiblePaths}
-use Rattle.sig_x509.specs.declared.possible.Signed.{Signed}
-use Rattle.sig_x509.specs.declared.possible.Signer.{Signer}
-use Rattle.sig_questions.specs.Lists.{content_questions, entry_questions, sct_questions_under, signature_questions}
+use Rattle.sig_x509.specs.declared.possible.PossibleSigners.{PossibleSigners}
+use Rattle.sig_questions.specs.Asked.{signature_row}
+use Rattle.sig_questions.specs.Lists.{content_questions, embedded_questions, entry_questions}
 use Rattle.sig_questions.specs.Rows.{bytes_of_rows}
 use Rattle.sig_questions.specs.declared.listing.NoQuestions.{NoQuestions}
 use Rattle.sig_questions.specs.declared.listing.NoQuestions.TheVariants.{Link, TooLong, OutOfMemory}
@@ -38,26 +41,31 @@ row_of_parts parts = record {
   signature = parts.signature.now;
 }
 
--- ---- the rows of signatures of certificates, as they are borrowed
+-- ---- the rows of signatures of certificates
 
-abbrev pub rows_of_signature : Signed → Signer → List AcceptedRow
-rows_of_signature y x = signature_questions (seen_signed y) (seen_signer x)
+abbrev pub row_under : PossibleSigners → Bor Cert → List AcceptedRow
+row_under y x = signature_row y.certificate.now x.now ∷ []
 
--- under the keys of all of these
-abbrev pub rows_of_signed : List Signer → Signed → List AcceptedRow
-rows_of_signed xs y = flat_map (rows_of_signature y) xs
+-- under the keys of all who may have signed
+abbrev pub rows_of_signed : PossibleSigners → List AcceptedRow
+rows_of_signed y = flat_map (row_under y) y.signers.items
 
--- of the SCT
-abbrev pub rows_of_point : (List ℕ → Option (List ℕ)) → Signed → Signer → List AcceptedRow
-rows_of_point points y x = sct_questions_under points (seen_signed y) (seen_signer x)
+-- of the SCT of a certificate, as issued under the key of x
+abbrev pub point_questions : (List ℕ → Option (List ℕ)) → Cert → Cert → List AcceptedRow
+point_questions points c x = embedded_questions points (ready c x.spki (sct_of c))
+
+abbrev pub point_under : (List ℕ → Option (List ℕ)) → PossibleSigners → Bor Cert → List AcceptedRow
+point_under points y x = point_questions points y.certificate.now x.now
+
+abbrev pub rows_of_points : (List ℕ → Option (List ℕ)) → PossibleSigners → List AcceptedRow
+rows_of_points points y = flat_map (point_under points y) y.signers.items
 
 -- ---- all rows of these paths
 
 abbrev pub rows_of_paths : PossiblePaths → List AcceptedRow
-rows_of_paths paths = rows_of_signed paths.signers.items paths.leaf
-    ++ flat_map (rows_of_signed paths.signers.items) paths.further.items
+rows_of_paths paths = rows_of_signed paths.leaf ++ flat_map rows_of_signed paths.further.items
 
 -- and those after them
 abbrev pub rows_behind : PossiblePaths → TrustParts → ArtifactDigest → Checked → List AcceptedRow
-rows_behind paths trust d c = flat_map (rows_of_point (point_at trust.keyring) paths.leaf) paths.signers.items
+rows_behind paths trust d c = rows_of_points (point_at trust.keyring) paths.leaf
     ++ (content_questions d c ++ entry_questions trust.log_keys c.entry)

@@ -7,13 +7,11 @@ ghost use Rattle.sig_verify.specs.RootLinks.{IsSomeAnchor};
 
 use sig_base::{Entries, OutOfMemory, OwnedList};
 use sig_certificate::{Certificate, X509ReadError};
+use sig_x509::TrustAnchors;
 use std::alloc::Global;
 
 /// Reads the certificates of trust anchors. Fails only if out of memory.
-pub(crate) fn read_anchors(
-    alloc: Global,
-    ders: &Entries,
-) -> Result<OwnedList<Certificate>, OutOfMemory>
+pub(crate) fn read_anchors(alloc: Global, ders: &Entries) -> Result<TrustAnchors, OutOfMemory>
     requires { AllByRecursion IsSomeAnchor ders.now }
     ensures { IfOk result (AreCertificates ders.now) }
 {
@@ -22,7 +20,7 @@ pub(crate) fn read_anchors(
         let anchor = read_anchor(alloc, der.as_slice())?;
         anchors.push(anchor)?;
     }
-    Ok(anchors)
+    TrustAnchors::new(alloc, anchors)
 }
 
 /// Reads the certificate of a trust anchor.

@@ -1,20 +1,15 @@
 //! The links before the first that asks a checker.
-ghost use Rattle.std.specs.Prelude.{◌≡◌, Ok};
-ghost use Rattle.std.specs.List.{AllByRecursion};
-ghost use Rattle.sig_bundle.specs.BundleRecord.{bundle_in};
-ghost use Rattle.sig_root.specs.OfBytes.{HasRawBytes};
-ghost use Rattle.sig_root.specs.RootRecord.{trusted_root_in};
+ghost use Rattle.std.specs.Prelude.{◌≡◌};
+ghost use Rattle.sig_verify.specs.OfflineErrors.{link_of, of_verification};
 ghost use Rattle.sig_questions.specs.Front.{IsFrontTold, front_result, unread};
 
 use crate::listing::NoQuestions;
 use sig_base::TableChecker;
 use sig_bundle::{ArtifactDigest, Bundle};
 use sig_certificate::Certificate;
-use sig_checked_bundle::laws::is_certificate_bytes;
 use sig_json::JsonError;
 use sig_policy::{PolicyResult, VerificationPolicy};
-use sig_verify::laws::{is_entry_bytes, outcomes};
-use sig_verify::{Link, SigstoreTrustRoot, verify_parts};
+use sig_verify::{Link, OfflineError, VerificationError, Verifier};
 use std::alloc::Global;
 
 /// A policy that holds of every certificate.
@@ -34,43 +29,44 @@ impl VerificationPolicy for AnyCertificate {
     }
 }
 
-/// Checks the links up to `issuance`, which no checker is asked about, of a trusted root and of a bundle that were read
-/// from these texts: those before the first that fails under a checker that accepts nothing. Fails with the first of
-/// them that fails, or with `OutOfMemory`.
+/// Checks the links `material` to `issuance` of a bundle, which no checker is asked about: those before the first that
+/// fails under a checker that accepts nothing. Fails with the first of them that fails, or with `OutOfMemory`.
 pub(crate) fn check_front(
     alloc: Global,
-    root_text: &[u8],
-    bundle_text: &[u8],
-    root: &SigstoreTrustRoot,
-    now: i64,
+    verifier: &Verifier,
     digest: &ArtifactDigest,
     bundle: &Bundle,
 ) -> Result<(), NoQuestions>
-    requires keys { AllByRecursion HasRawBytes root.now.tlogs }
-    requires root_read { trusted_root_in root_text.now ≡ Ok root.now }
-    requires bundle_read { bundle_in bundle_text.now ≡ Ok bundle.now }
-    ensures { IsFrontTold (record { root = root_text.now; now = now; digest = digest.now; bundle = bundle_text.now })
-        result }
+    ensures { IsFrontTold verifier.now digest.now bundle.now result }
 {
-    // What the result says of the links, of texts whose certificate and log entry are bytes.
-    outcomes();
-    is_certificate_bytes(bundle);
-    is_entry_bytes(bundle);
     let nothing = TableChecker::new(alloc);
-    match verify_parts(alloc, root, now, digest, bundle, &AnyCertificate, &nothing) {
-        Err(error) => front_result(error.link()),
+    match verifier.verify_digest_with(alloc, digest, bundle, &AnyCertificate, true, &nothing) {
+        Err(error) => front_result(failed_link(error)),
         // The link `issuer` does not hold under a checker that accepts nothing.
-        Ok(_) => unreachable!(),
+        Ok(()) => unreachable!(),
     }
 }
 
-/// Why there are no questions, if the text of this link was not read.
-pub(crate) fn unread(link: Link, error: JsonError) -> NoQuestions
-    ensures { result ≡ unread link error }
+/// The link that a verifier's error is of; `None` if memory ran out.
+fn failed_link(error: VerificationError) -> Option<Link>
+    ensures { result ≡ link_of (of_verification error) }
+{
+    let error = offline_error(error);
+    let link = error.link();
+    drop(error);
+    link
+}
+
+/// The error of the chain of trust that a verifier's error is. Of a digest no artifact is read.
+fn offline_error(error: VerificationError) -> OfflineError
+    ensures { result ≡ of_verification error }
 {
     match error {
-        JsonError::OutOfMemory => NoQuestions::OutOfMemory,
-        _ => NoQuestions::Link(link),
+        VerificationError::Bundle(kind) => OfflineError::Bundle(kind),
+        VerificationError::Certificate(kind) => OfflineError::Certificate(kind),
+        VerificationError::Signature(kind) => OfflineError::Signature(kind),
+        VerificationError::Policy(error) => OfflineError::Policy(error),
+        VerificationError::Input(_) | VerificationError::OutOfMemory => OfflineError::OutOfMemory,
     }
 }
 
@@ -83,5 +79,15 @@ fn front_result(link: Option<Link>) -> Result<(), NoQuestions>
         Some(Link::Issuer) => Ok(()),
         Some(link) => Err(NoQuestions::Link(link)),
         None => Err(NoQuestions::OutOfMemory),
+    }
+}
+
+/// Why there are no questions, if the text of this link was not read.
+pub(crate) fn unread(link: Link, error: JsonError) -> NoQuestions
+    ensures { result ≡ unread link error }
+{
+    match error {
+        JsonError::OutOfMemory => NoQuestions::OutOfMemory,
+        _ => NoQuestions::Link(link),
     }
 }

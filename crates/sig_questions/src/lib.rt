@@ -2,10 +2,11 @@
 //!
 //! The layer above uses one fact. [`questions`] returns the rows that the chain of trust can rest on: two checkers
 //! that say the same of each of them have the same links that hold. Or it says which link fails whatever the checker
-//! says.
+//! says. [`AskedRoot`] lists them of many bundles under one trusted root, which is read once.
 #![tactic(auto)]
 
 mod anchors;
+mod asked_root;
 mod bytes;
 mod content;
 mod entry;
@@ -17,4 +18,5 @@ mod points;
 mod rows;
 mod trust;
 
+pub use asked_root::AskedRoot;
 pub use listing::{NoQuestions, questions};

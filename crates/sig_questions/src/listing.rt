@@ -1,22 +1,21 @@
 //! The questions of a chain of trust, listed.
-ghost use Rattle.std.specs.Prelude.{◌≡◌, ◌↔◌, ◌++◌, ℕ, Contains, IfOk, List, Ok, OnOk};
-ghost use Rattle.std.specs.List.{AllByRecursion};
+ghost use Rattle.std.specs.Prelude.{◌≡◌, ◌↔◌, ◌++◌, ℕ, ℤ, Contains, IfOk, List, OnOk};
 ghost use Rattle.sig_base.specs.Answers.{UnlessMemory};
 ghost use Rattle.sig_base.specs.declared.checker.AcceptedRow.{AcceptedRow as row_type};
-ghost use Rattle.sig_bundle.specs.BundleRecord.{bundle_in};
-ghost use Rattle.sig_root.specs.OfBytes.{HasRawBytes};
-ghost use Rattle.sig_root.specs.RootRecord.{trusted_root_in};
 ghost use Rattle.sig_verify.specs.EntryLinks.{IsOfBytes};
 ghost use Rattle.sig_verify.specs.LinkLaws.{IsReadCertificate};
+ghost use Rattle.sig_verify.specs.Outcome.{inputs_of};
 ghost use Rattle.sig_questions.specs.Asked.{IsAskedBy};
+ghost use Rattle.sig_questions.specs.AskedRoot.{IsAnsweredIn, IsAnsweredOf, IsAnsweredUnder, IsAskedRootOf};
 ghost use Rattle.sig_questions.specs.Few.{AreFewQuestions};
-ghost use Rattle.sig_questions.specs.Front.{HasTrust, IsPassedBundle};
-ghost use Rattle.sig_questions.specs.Listed.{AreListed, AreListedAs, AreListedOf, IsAnswered, trust_in};
+ghost use Rattle.sig_questions.specs.Front.{IsPassedBundle};
+ghost use Rattle.sig_questions.specs.Listed.{AreListed, AreListedAs, AreListedUnder, trust_in};
 ghost use Rattle.sig_questions.specs.Lists.{content_questions, entry_questions};
 ghost use Rattle.sig_questions.specs.Order.{AreInOrder, IsAskedAt};
 ghost use Rattle.sig_questions.specs.Questions.{AreQuestions, IsDecided, Suffices};
 ghost use Rattle.sig_questions.specs.Written.{AddsRows, rows_behind, rows_of_paths};
 
+use crate::asked_root::{AskedRoot, AskedTrust};
 use crate::bytes::is_read_certificate;
 use crate::content::push_content;
 use crate::entry::push_entry;
@@ -25,13 +24,12 @@ use crate::laws::{listed_texts, questions_suffice};
 use crate::paths::push_certificates;
 use crate::points::push_points;
 use crate::rows::Rows;
-use crate::trust::{TrustParts, read_trust};
+use crate::trust::TrustParts;
 use sig_base::{AcceptedRow, KeyMap, OutOfMemory, OwnedList};
 use sig_bundle::{ArtifactDigest, Bundle, read_bundle};
+use sig_certificate::laws::certificates;
 use sig_checked_bundle::laws::passed_bundles;
 use sig_checked_bundle::{BundleErrorKind, CheckedBundle};
-use sig_root::laws::are_log_key_bytes;
-use sig_root::{SigstoreTrustRoot, read_trusted_root};
 use sig_verify::Link;
 use sig_x509::{PossiblePaths, possible_paths};
 use std::alloc::{AllocError, Global};
@@ -133,100 +131,123 @@ pub fn questions(
     ensures decided { IsDecided
         (record { root = trusted_root.now; now = now; digest = digest.now; bundle = bundle.now }) most result }
 {
-    // The signatures that are asked for decide which links hold.
-    questions_suffice();
-    list_text(alloc, trusted_root, now, digest, bundle, most)
-}
-
-/// The rows of two texts, each of which is read once.
-fn list_text(
-    alloc: Global,
-    trusted_root: &[u8],
-    now: i64,
-    digest: &ArtifactDigest,
-    bundle: &[u8],
-    most: usize,
-) -> Result<OwnedList<AcceptedRow>, NoQuestions>
-    ensures { IsAnswered (record { root = trusted_root.now; now = now; digest = digest.now; bundle = bundle.now })
-        most result }
-{
-    match read_trusted_root(alloc, trusted_root) {
+    match AskedRoot::read(alloc, trusted_root, now) {
         Ok(root) => {
-            // The keys of logs are bytes.
-            are_log_key_bytes(root.tlogs.as_slice());
-            let root = SigstoreTrustRoot::of(root);
-            list_bundle(alloc, trusted_root, &root, now, digest, bundle, most)
+            let listed = root.questions(alloc, digest, bundle, most);
+            drop(root);
+            listed
         }
-        Err(error) => Err(unread(Link::RootJson, error)),
-    }
-}
-
-/// The rows under a trusted root that was read from this text.
-fn list_bundle(
-    alloc: Global,
-    root_text: &[u8],
-    root: &SigstoreTrustRoot,
-    now: i64,
-    digest: &ArtifactDigest,
-    bundle: &[u8],
-    most: usize,
-) -> Result<OwnedList<AcceptedRow>, NoQuestions>
-    requires keys { AllByRecursion HasRawBytes root.now.tlogs }
-    requires read { trusted_root_in root_text.now ≡ Ok root.now }
-    ensures { IsAnswered (record { root = root_text.now; now = now; digest = digest.now; bundle = bundle.now })
-        most result }
-{
-    match read_bundle(alloc, bundle) {
-        Ok(read) => list_read(alloc, root_text, bundle, root, now, digest, &read, most),
-        Err(error) => Err(unread(Link::BundleJson, error)),
-    }
-}
-
-/// The rows of a trusted root and of a bundle that were read from these texts.
-fn list_read(
-    alloc: Global,
-    root_text: &[u8],
-    bundle_text: &[u8],
-    root: &SigstoreTrustRoot,
-    now: i64,
-    digest: &ArtifactDigest,
-    bundle: &Bundle,
-    most: usize,
-) -> Result<OwnedList<AcceptedRow>, NoQuestions>
-    requires keys { AllByRecursion HasRawBytes root.now.tlogs }
-    requires root_read { trusted_root_in root_text.now ≡ Ok root.now }
-    requires bundle_read { bundle_in bundle_text.now ≡ Ok bundle.now }
-    ensures { IsAnswered (record { root = root_text.now; now = now; digest = digest.now; bundle = bundle_text.now })
-        most result }
-{
-    // What is listed of texts that were read is the answer to them.
-    listed_texts();
-    match check_front(alloc, root_text, bundle_text, root, now, digest, bundle) {
-        Ok(()) => list_checked(alloc, root, now, digest, bundle, most),
         Err(error) => Err(error),
     }
 }
 
-/// The rows of a root and a bundle of which the links up to `issuance` hold. Fails otherwise only as they do not fit, or as
-/// no path would lead to a trust anchor.
-fn list_checked(
+impl AskedRoot {
+    /// Returns what [`questions`] returns of the text and the time that this root was made of, and of this digest and
+    /// bundle; the root is not read again.
+    pub fn questions(
+        &self,
+        alloc: Global,
+        digest: &ArtifactDigest,
+        bundle: &[u8],
+        most: usize,
+    ) -> Result<OwnedList<AcceptedRow>, NoQuestions>
+        // A row is listed if and only if a link asks it.
+        ensures asked { (root : List ℕ) (now : ℤ) → IsAskedRootOf root now self.now → IfOk result
+            (λ rows. (row : row_type) → Contains rows row ↔ IsAskedBy (inputs_of root now digest.now bundle.now) row) }
+        // Nothing else matters.
+        ensures suffice { (root : List ℕ) (now : ℤ) → IsAskedRootOf root now self.now → IfOk result
+            (λ rows. Suffices (Contains rows) (inputs_of root now digest.now bundle.now)) }
+        // The rows are those of each group of links, one after the other.
+        ensures order { (root : List ℕ) (now : ℤ) → IsAskedRootOf root now self.now
+            → IfOk result (AreQuestions (inputs_of root now digest.now bundle.now)) }
+        // Of two positions the smaller is of an earlier link, or of the same link and an earlier place.
+        ensures places { (root : List ℕ) (now : ℤ) → IsAskedRootOf root now self.now
+            → IfOk result (AreInOrder (IsAskedAt (inputs_of root now digest.now bundle.now))) }
+        // There are at most so many rows beside so many trust anchors.
+        ensures few { (root : List ℕ) (now : ℤ) → IsAskedRootOf root now self.now
+            → IfOk result (AreFewQuestions (inputs_of root now digest.now bundle.now)) }
+        // A link is refused if and only if it is the first that fails whatever the checker and the policy say; where none
+        // is, the rows are returned if and only if they have at most so many bytes.
+        ensures decided { (root : List ℕ) (now : ℤ) → IsAskedRootOf root now self.now
+            → IsDecided (inputs_of root now digest.now bundle.now) most result }
+    {
+        // The signatures that are asked for decide which links hold.
+        questions_suffice();
+        self.list_text(alloc, digest, bundle, most)
+    }
+
+    /// The rows of a bundle's text, which is read once. Its link comes before those of the root that are kept.
+    fn list_text(
+        &self,
+        alloc: Global,
+        digest: &ArtifactDigest,
+        bundle: &[u8],
+        most: usize,
+    ) -> Result<OwnedList<AcceptedRow>, NoQuestions>
+        ensures { IsAnsweredIn self.now digest.now bundle.now most result }
+    {
+        match read_bundle(alloc, bundle) {
+            Ok(bundle) => {
+                let listed = self.list_bundle(alloc, digest, &bundle, most);
+                drop(bundle);
+                listed
+            }
+            Err(error) => Err(unread(Link::BundleJson, error)),
+        }
+    }
+
+    /// The rows of a bundle that was read.
+    fn list_bundle(
+        &self,
+        alloc: Global,
+        digest: &ArtifactDigest,
+        bundle: &Bundle,
+        most: usize,
+    ) -> Result<OwnedList<AcceptedRow>, NoQuestions>
+        ensures { IsAnsweredOf self.now digest.now bundle.now most result }
+    {
+        match &self.trust {
+            Ok(trust) => list_under(alloc, trust, digest, bundle, most),
+            Err(link) => Err(NoQuestions::Link(*link)),
+        }
+    }
+}
+
+/// The rows of a bundle under what a trusted root gives.
+fn list_under(
     alloc: Global,
-    root: &SigstoreTrustRoot,
-    now: i64,
+    trust: &AskedTrust,
     digest: &ArtifactDigest,
     bundle: &Bundle,
     most: usize,
 ) -> Result<OwnedList<AcceptedRow>, NoQuestions>
-    requires trust { HasTrust root.now now }
-    requires passed { IsPassedBundle bundle.now }
-    ensures { UnlessMemory NoQuestions.OutOfMemory result (AreListedOf root.now now digest.now bundle.now most
-        result) }
+    ensures { IsAnsweredUnder trust.now digest.now bundle.now most result }
+{
+    // Bytes are at most one certificate; and what is listed of texts that were read is the answer to them.
+    certificates();
+    listed_texts();
+    match check_front(alloc, &trust.verifier, digest, bundle) {
+        Ok(()) => list_checked(alloc, &trust.parts, digest, bundle, most),
+        Err(error) => Err(error),
+    }
+}
+
+/// The rows of a bundle of which the links up to `issuance` hold. Fails otherwise only as they do not fit, or as no path
+/// would lead to a trust anchor.
+fn list_checked(
+    alloc: Global,
+    trust: &TrustParts,
+    digest: &ArtifactDigest,
+    bundle: &Bundle,
+    most: usize,
+) -> Result<OwnedList<AcceptedRow>, NoQuestions>
+    requires { IsPassedBundle bundle.now }
+    ensures { UnlessMemory NoQuestions.OutOfMemory result (AreListedUnder trust.now digest.now bundle.now most result) }
 {
     // What a bundle has that passes its own checks.
     passed_bundles();
-    let trust = read_trust(alloc, root, now)?;
     match CheckedBundle::try_from_bundle(alloc, bundle) {
-        Ok(checked) => list(alloc, &trust, digest, &checked, most),
+        Ok(checked) => list(alloc, trust, digest, &checked, most),
         Err(error) => Err(memory_of(error)),
     }
 }
@@ -247,9 +268,8 @@ fn list(
     // The key of the certificate is bytes, and its SCTs are what the reader of SCTs says.
     is_read_certificate(bundle);
     let leaf = bundle.certificate();
-    let anchors = trust.anchors.as_slice();
     let time = leaf.not_before();
-    let paths = possible_paths(alloc, leaf, anchors, bundle.further(), time)?;
+    let paths = possible_paths(alloc, leaf, &trust.anchors, bundle.further(), time)?;
     list_paths(alloc, &paths, trust, digest, bundle, most)
 }
 
@@ -290,7 +310,7 @@ fn push_behind(
     ensures written { AddsRows rows.old (rows_behind paths.now trust.now digest.now bundle.now) result rows.new }
     ensures bytes { OnOk result (IsOfBytes trust.now.log_keys bundle.now.entry) }
 {
-    push_points(rows, alloc, &paths.leaf, &paths.signers, &trust.keyring)?;
+    push_points(rows, alloc, &paths.leaf, &trust.keyring)?;
     push_last(rows, alloc, &trust.log_keys, digest, bundle)
 }
 

@@ -1,50 +1,45 @@
 //! The certificate's SCT under each issuer of a path that would hold (RFC 6962 section 3.2).
-ghost use Rattle.std.specs.Prelude.{◌≡◌, flat_map};
 ghost use Rattle.sig_timestamp.specs.RingKey.{point_at};
 ghost use Rattle.sig_questions.specs.Lists.{signed_questions};
-ghost use Rattle.sig_questions.specs.Written.{AddsRows, rows_of_point};
+ghost use Rattle.sig_questions.specs.Written.{AddsRows, point_questions, rows_of_points};
 
 use crate::listing::NoQuestions;
 use crate::rows::{RowParts, Rows};
 use sig_base::Operation;
+use sig_certificate::Certificate;
 use sig_timestamp::{
     CT_EXTENSIONS_MAX, CertificateEmbeddedSCT, DigitallySigned, Keyring, SCTError,
     TBS_CERTIFICATE_MAX, signed_bytes,
 };
-use sig_x509::{Signed, Signer, may_sign};
+use sig_x509::PossibleSigners;
 use std::alloc::Global;
 
 /// The rows under the keys of all who may have signed the leaf, in order.
 pub(crate) fn push_points(
     rows: &mut Rows,
     alloc: Global,
-    leaf: &Signed<'_>,
-    signers: &[Signer<'_>],
+    leaf: &PossibleSigners<'_>,
     keyring: &Keyring,
 ) -> Result<(), NoQuestions>
-    ensures { AddsRows rows.old (flat_map (rows_of_point (point_at keyring.now) leaf.now) signers.now) result rows.new }
+    ensures { AddsRows rows.old (rows_of_points (point_at keyring.now) leaf.now) result rows.new }
 {
-    'signers: for signer in signers {
-        push_point(rows, alloc, leaf, signer, keyring)?;
+    'signers: for signer in &leaf.signers {
+        push_point(rows, alloc, leaf.certificate, signer, keyring)?;
     }
     Ok(())
 }
 
-/// The row under a key, if a path that would hold has the leaf under it and the leaf has one SCT.
+/// The row under a key, if the leaf has one SCT.
 fn push_point(
     rows: &mut Rows,
     alloc: Global,
-    leaf: &Signed<'_>,
-    signer: &Signer<'_>,
+    leaf: &Certificate,
+    signer: &Certificate,
     keyring: &Keyring,
 ) -> Result<(), NoQuestions>
-    ensures { AddsRows rows.old (rows_of_point (point_at keyring.now) leaf.now signer.now) result rows.new }
+    ensures { AddsRows rows.old (point_questions (point_at keyring.now) leaf.now signer.now) result rows.new }
 {
-    if !may_sign(leaf, signer) {
-        return Ok(());
-    }
-    let spki = signer.certificate.spki();
-    match CertificateEmbeddedSCT::new_with_verified_path(alloc, leaf.certificate, spki) {
+    match CertificateEmbeddedSCT::new_with_verified_path(alloc, leaf, signer.spki()) {
         Ok(embedded) => {
             let signed = DigitallySigned::from_embedded(alloc, &embedded)?;
             push_signed(rows, alloc, &signed, keyring)

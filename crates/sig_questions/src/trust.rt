@@ -8,17 +8,17 @@ ghost use Rattle.sig_verify.specs.RootLinks.{IsSomeAnchor, authorities, ct_keys,
 ghost use Rattle.sig_verify.specs.Verifier.{HasKeys};
 
 use crate::anchors::read_anchors;
-use sig_base::{KeyMap, OutOfMemory, OwnedList, SigstoreError};
-use sig_certificate::Certificate;
+use sig_base::{KeyMap, OutOfMemory, SigstoreError};
 use sig_root::{SigstoreTrustRoot, TrustRoot};
 use sig_timestamp::Keyring;
 use sig_verify::keyring_of;
+use sig_x509::TrustAnchors;
 use std::alloc::Global;
 
 /// What a root gives at a time.
 #[derive(Drop)]
 pub(crate) struct TrustParts {
-    pub(crate) anchors: OwnedList<Certificate>,
+    pub(crate) anchors: TrustAnchors,
     pub(crate) keyring: Keyring,
     pub(crate) log_keys: KeyMap,
 }
@@ -44,7 +44,7 @@ fn anchors_of(
     alloc: Global,
     root: &SigstoreTrustRoot,
     now: i64,
-) -> Result<OwnedList<Certificate>, OutOfMemory>
+) -> Result<TrustAnchors, OutOfMemory>
     requires some { authorities root.now now ≢ [] }
     requires anchors { AllByRecursion IsSomeAnchor (authorities root.now now) }
     ensures { IfOk result (AreCertificates (authorities root.now now)) }

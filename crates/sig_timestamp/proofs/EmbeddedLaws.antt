@@ -4,6 +4,7 @@ use Rattle.std.proofs.Common.{refl, sym, ap, subst, ◌∙◌, inl, inr, arith}
 use Rattle.std.proofs.lemmas.List.{append-nil}
 use Rattle.std.specs.Prelude.{◌↔◌, IsSome}
 use Rattle.sig_base.specs.Answers.{Answers, ComesWhere}
+use Rattle.sig_base.specs.Sha256.{sha256}
 use Rattle.sig_base.proofs.OptionSteps.{some_is}
 use Rattle.sig_der.proofs.Bytes.{IsBytes, IsBytes-right}
 use Rattle.sig_der.proofs.KeyInfos.{content_fits}
@@ -18,7 +19,7 @@ use Rattle.sig_timestamp.specs.Vectors.{vector, uint16_bytes}
 use Rattle.sig_timestamp.specs.SctList.{Sct, IsSct, IsSctList, sct_at, sct_list_at}
 use Rattle.sig_timestamp.specs.Timestamps.{HasSct, LacksSct, HasBadSct, IsNoList, ListsNoSct, sct_extensions, only_one}
 use Rattle.sig_timestamp.specs.Timestamps.{sct_or_not, sct_in, sct_of_value, sct_of_list, sct_of}
-use Rattle.sig_timestamp.specs.Embedded.{signs_by, ready, HasSctCause, IsEmbedded, IsEmbeddedUnder, IsSaidOf}
+use Rattle.sig_timestamp.specs.Embedded.{signs_by, ready_with, HasSctCause, IsEmbeddedUnder, IsEmbeddedWith, IsSaidOf}
 use Rattle.sig_timestamp.specs.Embedded.{IsSaidOfValue}
 use Rattle.sig_timestamp.proofs.SctLaws.{sct_list_at_takes, sct_list_at_again, sct_at_takes, sct_at_again}
 
@@ -139,32 +140,32 @@ bad_reads c (Err IssuerMissing) said b = absurd said
 abbrev Answer : Type 0
 Answer = Result DigitallySigned SCTError
 
-caused : (c : Cert) (spki : List ℕ) (r : Result Sct CertificateErrorKind) → IsSaidOf c r → (a : Answer)
-    → Answers OutOfMemory (λ (d : DigitallySigned). d) a (ready c spki r) → HasSctCause c spki a
-caused c spki (Ok s) said (Ok d) e = record { sct = s; has = said; is = let is = e in cc }
-caused c spki (Ok s) said (Err f) (inl memory) = rw memory tt
-caused c spki (Ok s) said (Err f) (inr e) = absurd cc
-caused c spki (Err k) said (Ok d) e = absurd cc
-caused c spki (Err k) said (Err f) (inl memory) = rw memory tt
-caused c spki (Err k) said (Err f) (inr e) = let same : f ≡ Parsing k = cc in rw same (of_kind k said)
+caused : (c : Cert) (hash : List ℕ) (r : Result Sct CertificateErrorKind) → IsSaidOf c r → (a : Answer)
+    → Answers OutOfMemory (λ (d : DigitallySigned). d) a (ready_with c hash r) → HasSctCause c hash a
+caused c hash (Ok s) said (Ok d) e = record { sct = s; has = said; is = let is = e in cc }
+caused c hash (Ok s) said (Err f) (inl memory) = rw memory tt
+caused c hash (Ok s) said (Err f) (inr e) = absurd cc
+caused c hash (Err k) said (Ok d) e = absurd cc
+caused c hash (Err k) said (Err f) (inl memory) = rw memory tt
+caused c hash (Err k) said (Err f) (inr e) = let same : f ≡ Parsing k = cc in rw same (of_kind k said)
   where
-    of_kind : (k : CertificateErrorKind) → IsSaidOf c (Err k) → HasSctCause c spki (Err (Parsing k))
+    of_kind : (k : CertificateErrorKind) → IsSaidOf c (Err k) → HasSctCause c hash (Err (Parsing k))
     of_kind LeafSCTMissing h = h
     of_kind LeafSCTMalformed h = h
     of_kind IssuerMissing h = h
 
-pub embedded : (c : Cert) (spki : List ℕ) (a : Answer)
-    → Answers OutOfMemory (λ (d : DigitallySigned). d) a (ready c spki (sct_of c)) → IsSaidOf c (sct_of c)
-    → IsEmbedded c spki a
-embedded c spki a e said =
+pub embedded : (c : Cert) (hash : List ℕ) (a : Answer)
+    → Answers OutOfMemory (λ (d : DigitallySigned). d) a (ready_with c hash (sct_of c)) → IsSaidOf c (sct_of c)
+    → IsEmbeddedWith c hash a
+embedded c hash a e said =
     record {
-      cause = caused c spki (sct_of c) said a e;
+      cause = caused c hash (sct_of c) said a e;
       has = λ s h. subst (λ (w : Answer). Answers OutOfMemory (λ (d : DigitallySigned). d) a w)
-          (ap (λ (r : Result Sct CertificateErrorKind). ready c spki r) (has_reads c s h)) e;
+          (ap (λ (r : Result Sct CertificateErrorKind). ready_with c hash r) (has_reads c s h)) e;
       lacks = λ h. subst (λ (w : Answer). Answers OutOfMemory (λ (d : DigitallySigned). d) a w)
-          (ap (λ (r : Result Sct CertificateErrorKind). ready c spki r) (lacks_reads c h)) e;
+          (ap (λ (r : Result Sct CertificateErrorKind). ready_with c hash r) (lacks_reads c h)) e;
       bad = λ h. subst (λ (w : Answer). Answers OutOfMemory (λ (d : DigitallySigned). d) a w)
-          (ap (λ (r : Result Sct CertificateErrorKind). ready c spki r) (bad_reads c (sct_of c) said h)) e;
+          (ap (λ (r : Result Sct CertificateErrorKind). ready_with c hash r) (bad_reads c (sct_of c) said h)) e;
       read = e;
     }
 
@@ -175,17 +176,17 @@ comes (Ok d) m e = inr (sym e)
 comes (Err f) m (inl e) = inl (ap (λ (x : SCTError). Err x) e)
 comes (Err f) m (inr e) = inr (sym e)
 
-pub missing : (c : Cert) (spki : List ℕ) (a : Answer) → IsEmbedded c spki a
+pub missing : (c : Cert) (hash : List ℕ) (a : Answer) → IsEmbeddedWith c hash a
     → ComesWhere OutOfMemory a (Err (Parsing LeafSCTMissing)) (LacksSct c)
-missing c spki a is = (
-  (λ e. subst (λ (w : Answer). HasSctCause c spki w) e is.cause),
+missing c hash a is = (
+  (λ e. subst (λ (w : Answer). HasSctCause c hash w) e is.cause),
   (λ h. comes a (Err (Parsing LeafSCTMissing)) (is.lacks h)),
 )
 
-pub malformed : (c : Cert) (spki : List ℕ) (a : Answer) → IsEmbedded c spki a
+pub malformed : (c : Cert) (hash : List ℕ) (a : Answer) → IsEmbeddedWith c hash a
     → ComesWhere OutOfMemory a (Err (Parsing LeafSCTMalformed)) (HasBadSct c)
-malformed c spki a is = (
-  (λ e. subst (λ (w : Answer). HasSctCause c spki w) e is.cause),
+malformed c hash a is = (
+  (λ e. subst (λ (w : Answer). HasSctCause c hash w) e is.cause),
   (λ h. comes a (Err (Parsing LeafSCTMalformed)) (is.bad h)),
 )
 
@@ -193,17 +194,17 @@ pub under_issuer : (c : Cert) (o : Option Cert) (a : Answer) → IsEmbeddedUnder
     → (a ≡ Err (Parsing IssuerMissing)) ↔ (o ≡ None)
 under_issuer c None a is = ((λ e. refl), (λ e. is))
 under_issuer c (Some x) a is =
-    ((λ e. absurd (subst (λ (w : Answer). HasSctCause c x.spki w) e is.cause)), (λ e. absurd cc))
+    ((λ e. absurd (subst (λ (w : Answer). HasSctCause c (sha256 x.spki) w) e is.cause)), (λ e. absurd cc))
 
 pub under_missing : (c : Cert) (o : Option Cert) (a : Answer) → IsEmbeddedUnder c o a
     → ComesWhere OutOfMemory a (Err (Parsing LeafSCTMissing)) (IsSome o × LacksSct c)
 under_missing c None a is = ((λ e. let no = sym is ∙ e in absurd cc), (λ h. let no = h.0 in absurd cc))
-under_missing c (Some x) a is = let both = missing c x.spki a is in ((λ e. (refl, both.0 e)), (λ h. both.1 h.1))
+under_missing c (Some x) a is = let both = missing c (sha256 x.spki) a is in ((λ e. (refl, both.0 e)), (λ h. both.1 h.1))
 
 pub under_malformed : (c : Cert) (o : Option Cert) (a : Answer) → IsEmbeddedUnder c o a
     → ComesWhere OutOfMemory a (Err (Parsing LeafSCTMalformed)) (IsSome o × HasBadSct c)
 under_malformed c None a is = ((λ e. let no = sym is ∙ e in absurd cc), (λ h. let no = h.0 in absurd cc))
-under_malformed c (Some x) a is = let both = malformed c x.spki a is in ((λ e. (refl, both.0 e)), (λ h. both.1 h.1))
+under_malformed c (Some x) a is = let both = malformed c (sha256 x.spki) a is in ((λ e. (refl, both.0 e)), (λ h. both.1 h.1))
 
 -- ---- the purposes of a certificate
 

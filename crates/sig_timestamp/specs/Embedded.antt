@@ -2,6 +2,7 @@
 use Rattle.std.specs.Prelude.{◌≡◌, ◌≢◌, ◌⊎◌, ℕ, length, Bool, false, List, [], ◌∷◌, Option, Some, None, option_map}
 use Rattle.std.specs.Prelude.{slice_get, unwrap_or, Result, Ok, Err, is_some, if◌then◌else◌}
 use Rattle.sig_base.specs.Answers.{Answers}
+use Rattle.sig_base.specs.Sha256.{sha256}
 use Rattle.sig_der.specs.ObjectIdentifiers.{extended_key_usage, precertificate_signing}
 use Rattle.sig_timestamp.specs.declared.signed.DigitallySigned.{DigitallySigned}
 use Rattle.sig_timestamp.specs.declared.sct_error.CertificateErrorKind.{CertificateErrorKind}
@@ -15,7 +16,7 @@ use Rattle.sig_certificate.specs.Lookups.{with_oid}
 use Rattle.sig_certificate.specs.Values.{purposes_of, has_purpose}
 use Rattle.sig_certificate.specs.Profile.{ca_refusal}
 use Rattle.sig_timestamp.specs.SctList.{Sct, IsSct, IsSctList}
-use Rattle.sig_timestamp.specs.SctBytes.{signed_of}
+use Rattle.sig_timestamp.specs.SctBytes.{signed_with}
 use Rattle.sig_timestamp.specs.Timestamps.{HasSct, LacksSct, HasBadSct, IsNoList, ListsNoSct, sct_of}
 
 -- ---- the issuer
@@ -44,35 +45,44 @@ issuer_in_chain chain = if_authority (candidate_of chain)
 
 -- ---- the result
 
-abbrev pub ready : Cert → List ℕ → Result Sct CertificateErrorKind → Result DigitallySigned SCTError
-ready c spki (Ok s) = Ok (signed_of c spki s)
-ready c spki (Err e) = Err (Parsing e)
+-- what was read, for an issuer whose SPKI has this SHA-256
+abbrev pub ready_with : Cert → List ℕ → Result Sct CertificateErrorKind → Result DigitallySigned SCTError
+ready_with c issuer_key_hash (Ok s) = Ok (signed_with c issuer_key_hash s)
+ready_with c issuer_key_hash (Err e) = Err (Parsing e)
 
--- The certificate's one SCT, ready to be checked for an issuer with this SPKI.
-pub record IsReady (c : Cert) (spki : List ℕ) (d : DigitallySigned) : Type 0 where
+-- for an issuer with this SPKI
+abbrev pub ready : Cert → List ℕ → Result Sct CertificateErrorKind → Result DigitallySigned SCTError
+ready c spki r = ready_with c (sha256 spki) r
+
+-- The certificate's one SCT, ready to be checked for an issuer whose SPKI has this SHA-256.
+pub record IsReady (c : Cert) (issuer_key_hash : List ℕ) (d : DigitallySigned) : Type 0 where
   pub sct : Sct
   pub has : HasSct c sct
-  pub is : d ≡ signed_of c spki sct
+  pub is : d ≡ signed_with c issuer_key_hash sct
 
 -- each result and its cause
 abbrev pub HasSctCause : Cert → List ℕ → Result DigitallySigned SCTError → Type 0
-HasSctCause c spki (Ok d) = IsReady c spki d
-HasSctCause c spki (Err (Parsing LeafSCTMissing)) = LacksSct c
-HasSctCause c spki (Err (Parsing LeafSCTMalformed)) = HasBadSct c
-HasSctCause c spki (Err (Parsing IssuerMissing)) = ⊥
-HasSctCause c spki (Err Serialization) = ⊥
-HasSctCause c spki (Err (Verification e)) = ⊥
-HasSctCause c spki (Err OutOfMemory) = Unit {0}
+HasSctCause c issuer_key_hash (Ok d) = IsReady c issuer_key_hash d
+HasSctCause c issuer_key_hash (Err (Parsing LeafSCTMissing)) = LacksSct c
+HasSctCause c issuer_key_hash (Err (Parsing LeafSCTMalformed)) = HasBadSct c
+HasSctCause c issuer_key_hash (Err (Parsing IssuerMissing)) = ⊥
+HasSctCause c issuer_key_hash (Err Serialization) = ⊥
+HasSctCause c issuer_key_hash (Err (Verification e)) = ⊥
+HasSctCause c issuer_key_hash (Err OutOfMemory) = Unit {0}
 
--- The result for an issuer with this SPKI.
-pub record IsEmbedded (c : Cert) (spki : List ℕ) (result : Result DigitallySigned SCTError) : Type 0 where
+-- The result for an issuer whose SPKI has this SHA-256.
+pub record IsEmbeddedWith (c : Cert) (issuer_key_hash : List ℕ) (result : Result DigitallySigned SCTError) : Type 0 where
   -- no result without its cause
-  pub cause : HasSctCause c spki result
+  pub cause : HasSctCause c issuer_key_hash result
   -- and no cause without its result
-  pub has : (s : Sct) → HasSct c s → Answers OutOfMemory (λ d. d) result (Ok (signed_of c spki s))
+  pub has : (s : Sct) → HasSct c s → Answers OutOfMemory (λ d. d) result (Ok (signed_with c issuer_key_hash s))
   pub lacks : LacksSct c → Answers OutOfMemory (λ d. d) result (Err (Parsing LeafSCTMissing))
   pub bad : HasBadSct c → Answers OutOfMemory (λ d. d) result (Err (Parsing LeafSCTMalformed))
-  pub read : Answers OutOfMemory (λ d. d) result (ready c spki (sct_of c))
+  pub read : Answers OutOfMemory (λ d. d) result (ready_with c issuer_key_hash (sct_of c))
+
+-- The result for an issuer with this SPKI.
+abbrev pub IsEmbedded : Cert → List ℕ → Result DigitallySigned SCTError → Type 0
+IsEmbedded c spki result = IsEmbeddedWith c (sha256 spki) result
 
 -- The result for the issuer that a chain begins with.
 abbrev pub IsEmbeddedUnder : Cert → Option Cert → Result DigitallySigned SCTError → Type 0

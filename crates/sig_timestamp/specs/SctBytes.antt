@@ -21,18 +21,21 @@ signed_bytes d =
     (v1 ∷ certificate_timestamp ∷ eight_bytes d.timestamp)
     ++ ((uint16_bytes precert_entry ++ d.issuer_key_hash) ++ (long_vector d.tbs_certificate ++ vector d.extensions))
 
--- what an SCT of a certificate signs, and its signature, if the issuer has this SPKI: `signed_bytes` of it is *SCT
--- signed bytes*
-abbrev pub signed_of : Cert → List ℕ → Sct → DigitallySigned
-signed_of c spki s =
+-- what an SCT of a certificate signs, and its signature, if the issuer's SPKI has this SHA-256
+abbrev pub signed_with : Cert → List ℕ → Sct → DigitallySigned
+signed_with c issuer_key_hash s =
     record {
       timestamp = s.timestamp;
-      issuer_key_hash = sha256 spki;
+      issuer_key_hash = issuer_key_hash;
       tbs_certificate = precertificate c;
       extensions = s.extensions;
       log_id = s.log_id;
       signature = s.signature;
     }
+
+-- the same if the issuer has this SPKI: `signed_bytes` of it is *SCT signed bytes*
+abbrev pub signed_of : Cert → List ℕ → Sct → DigitallySigned
+signed_of c spki s = signed_with c (sha256 spki) s
 
 -- ---- whether a keyring vouches for it
 

@@ -2,12 +2,12 @@
 
 ghost use Rattle.std.specs.Prelude.{◌≡◌, ◌↔◌, IfOk, IsSome, IsErrOf, Ok, Err, None};
 ghost use Rattle.sig_base.specs.Answers.{Answers, ComesWhere};
-ghost use Rattle.sig_timestamp.specs.SctBytes.{signed_of};
+ghost use Rattle.sig_timestamp.specs.SctBytes.{signed_with};
 ghost use Rattle.sig_timestamp.specs.Timestamps.{LacksSct, HasBadSct, only_one, sct_in, sct_of, sct_of_value};
 ghost use Rattle.sig_der.specs.FrontReaders.{many_at};
 ghost use Rattle.sig_timestamp.specs.Vectors.{vector_at};
-ghost use Rattle.sig_timestamp.specs.Embedded.{issuer_in_chain, ready, IsEmbedded, IsEmbeddedUnder, IsSaidOf};
-ghost use Rattle.sig_timestamp.specs.Embedded.{IsSaidOfValue};
+ghost use Rattle.sig_timestamp.specs.Embedded.{issuer_in_chain, ready_with, IsEmbedded, IsEmbeddedUnder, IsEmbeddedWith};
+ghost use Rattle.sig_timestamp.specs.Embedded.{IsSaidOf, IsSaidOfValue};
 ghost use Rattle.sig_timestamp.specs.BorrowedScts.{sct_result, sct_now};
 
 use crate::issuer::find_issuer;
@@ -85,7 +85,26 @@ impl CertificateEmbeddedSCT {
         ensures malformed { ComesWhere SCTError.OutOfMemory result (Err
             (SCTError.Parsing CertificateErrorKind.LeafSCTMalformed)) (HasBadSct leaf.now) }
     {
-        embed(alloc, leaf, issuer_spki)
+        CertificateEmbeddedSCT::new_with_issuer_key_hash(alloc, leaf, sha256(issuer_spki))
+    }
+
+    /// Returns what [`CertificateEmbeddedSCT::new_with_verified_path`] returns for an issuer whose SubjectPublicKeyInfo
+    /// (DER) has this SHA-256, with the same errors: a caller that has many certificates of one issuer hashes it once.
+    pub fn new_with_issuer_key_hash(
+        alloc: Global,
+        leaf: &Certificate,
+        issuer_key_hash: [u8; 32],
+    ) -> Result<CertificateEmbeddedSCT, SCTError>
+        // The one SCT is returned, ready to be checked under the issuer's key.
+        ensures embedded { IsEmbeddedWith leaf.now issuer_key_hash result }
+        // Not one extension lists SCTs, or it does not list exactly one.
+        ensures missing { ComesWhere SCTError.OutOfMemory result (Err
+            (SCTError.Parsing CertificateErrorKind.LeafSCTMissing)) (LacksSct leaf.now) }
+        // The one list of SCTs is malformed, or the only SCT in it.
+        ensures malformed { ComesWhere SCTError.OutOfMemory result (Err
+            (SCTError.Parsing CertificateErrorKind.LeafSCTMalformed)) (HasBadSct leaf.now) }
+    {
+        embed(alloc, leaf, issuer_key_hash)
     }
 }
 
@@ -127,13 +146,13 @@ fn embed_under(
 fn embed(
     alloc: Global,
     leaf: &Certificate,
-    issuer_spki: &[u8],
+    issuer_key_hash: [u8; 32],
 ) -> Result<CertificateEmbeddedSCT, SCTError>
-    ensures read { Answers SCTError.OutOfMemory (λ d. d) result (ready leaf.now issuer_spki.now (sct_of leaf.now)) }
+    ensures read { Answers SCTError.OutOfMemory (λ d. d) result (ready_with leaf.now issuer_key_hash (sct_of leaf.now)) }
     ensures said { IsSaidOf leaf.now (sct_of leaf.now) }
 {
     let sct = sct_of(leaf)?;
-    let signed = sign(alloc, leaf, issuer_spki, sct)?;
+    let signed = sign(alloc, leaf, issuer_key_hash, sct)?;
     Ok(CertificateEmbeddedSCT { signed })
 }
 
@@ -179,14 +198,14 @@ fn read_only(list: &[u8]) -> Result<BorrowedSct<'_>, CertificateErrorKind>
 fn sign(
     alloc: Global,
     leaf: &Certificate,
-    issuer_spki: &[u8],
+    issuer_key_hash: [u8; 32],
     sct: BorrowedSct<'_>,
 ) -> Result<DigitallySigned, OutOfMemory>
-    ensures { IfOk result (λ d. d ≡ signed_of leaf.now issuer_spki.now (sct_now sct.entry)) }
+    ensures { IfOk result (λ d. d ≡ signed_with leaf.now issuer_key_hash (sct_now sct.entry)) }
 {
     Ok(DigitallySigned {
         timestamp: sct.timestamp,
-        issuer_key_hash: sha256(issuer_spki),
+        issuer_key_hash,
         tbs_certificate: precert_tbs_der(alloc, leaf)?,
         extensions: Bytes::copy_of(alloc, sct.extensions)?,
         log_id: *sct.log_id,

@@ -200,10 +200,3 @@ module _ (k : Checker) (policy : PolicyOf) (held : HeldRoot) (d : ArtifactDigest
     all_logged (inl memory) result (inr vouched) = absurd (let wrong = memory in cc)
     all_logged (inr (answer, verdict, is)) result (inr vouched) =
         under result (answer, verdict, passed answer result is vouched)
-
-  -- of a root that was read
-  pub of_parts : (root : TrustedRoot) (now time : ℤ) (result : Outcome) → time ≡ now → IsGivenBy root time held
-      → Steps result → UnlessMemory OutOfMemory result (IsOfflineOf k policy root now d b result)
-  of_parts root now time result same given (inl memory) = inl memory
-  of_parts root now time result same given (inr steps) =
-      inr (steps root now (subst (λ (t : ℤ). IsGivenBy root t held) same given))

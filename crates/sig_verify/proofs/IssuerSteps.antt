@@ -4,7 +4,7 @@ use Rattle.sig_base.specs.Answers.{Answers, OrMemory}
 use Rattle.sig_base.specs.ResultSteps.{◌>>=◌}
 use Rattle.sig_certificate.specs.Certificate.{Cert}
 use Rattle.sig_checked_bundle.specs.Checked.{Checked}
-use Rattle.sig_timestamp.specs.Embedded.{ready}
+use Rattle.sig_timestamp.specs.Embedded.{ready_with}
 use Rattle.sig_timestamp.specs.RingKey.{RingKey}
 use Rattle.sig_timestamp.specs.SctBytes.{judged}
 use Rattle.sig_timestamp.specs.Timestamps.{sct_of}
@@ -13,27 +13,27 @@ use Rattle.sig_timestamp.specs.declared.sct_error.SCTError.TheVariants.{OutOfMem
 use Rattle.sig_timestamp.specs.declared.signed.DigitallySigned.{DigitallySigned}
 use Rattle.sig_timestamp.specs.Vouched.{AcceptsPoint}
 use Rattle.sig_verify.specs.Errors.{of_sct}
-use Rattle.sig_verify.specs.IssuerCheck.{from_sct, sct_answer}
+use Rattle.sig_verify.specs.IssuerCheck.{from_sct, sct_answer_with}
 use Rattle.sig_verify.specs.Verifier.{Trusted}
 use Rattle.sig_verify.specs.declared.error.VerificationError.TheVariants as verification
 
-pub sct_judged : (accepts : AcceptsPoint) (ring : List (List ℕ × RingKey)) (c : Cert) (spki : List ℕ)
+pub sct_judged : (accepts : AcceptsPoint) (ring : List (List ℕ × RingKey)) (c : Cert) (hash : List ℕ)
     (embedded signed : DigitallySigned) (r : Result (Unit {0}) SCTError)
-    → ready c spki (sct_of c) ≡ Ok embedded → signed ≡ embedded
+    → ready_with c hash (sct_of c) ≡ Ok embedded → signed ≡ embedded
     → Answers OutOfMemory (λ (done : Unit {0}). done) r (judged accepts signed ring)
-    → Answers OutOfMemory (λ (done : Unit {0}). done) r (sct_answer accepts ring c spki)
-sct_judged accepts ring c spki embedded signed r read same answer =
-    let is : judged accepts signed ring ≡ sct_answer accepts ring c spki =
+    → Answers OutOfMemory (λ (done : Unit {0}). done) r (sct_answer_with accepts ring c hash)
+sct_judged accepts ring c hash embedded signed r read same answer =
+    let is : judged accepts signed ring ≡ sct_answer_with accepts ring c hash =
     sym (ap (λ (found : Result DigitallySigned SCTError). found >>= λ d. judged accepts d ring) read ∙ ap
     (λ (d : DigitallySigned). judged accepts d ring) (sym same)) in
     subst (λ (meant : Result (Unit {0}) SCTError). Answers OutOfMemory (λ (done : Unit {0}). done) r meant) is answer
 
 -- the result as a verifier's
-pub sct_renamed : (accepts : AcceptsPoint) (ring : List (List ℕ × RingKey)) (c : Cert) (spki : List ℕ) (e : SCTError)
-    → OrMemory OutOfMemory e (sct_answer accepts ring c spki ≡ Err e)
-    → OrMemory verification.OutOfMemory (of_sct e) (from_sct (sct_answer accepts ring c spki) ≡ Err (of_sct e))
-sct_renamed accepts ring c spki e (inl memory) = inl (ap of_sct memory)
-sct_renamed accepts ring c spki e (inr is) = inr (ap from_sct is)
+pub sct_renamed : (accepts : AcceptsPoint) (ring : List (List ℕ × RingKey)) (c : Cert) (hash : List ℕ) (e : SCTError)
+    → OrMemory OutOfMemory e (sct_answer_with accepts ring c hash ≡ Err e)
+    → OrMemory verification.OutOfMemory (of_sct e) (from_sct (sct_answer_with accepts ring c hash) ≡ Err (of_sct e))
+sct_renamed accepts ring c hash e (inl memory) = inl (ap of_sct memory)
+sct_renamed accepts ring c hash e (inr is) = inr (ap from_sct is)
 
 -- ---- what contracts see
 

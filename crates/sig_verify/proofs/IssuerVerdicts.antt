@@ -12,6 +12,7 @@ use Rattle.sig_base.specs.declared.fault.PoolError.TheVariants as pool
 use Rattle.sig_checked_bundle.specs.Checked.{Checked}
 use Rattle.sig_certificate.specs.Certificate.{Cert}
 use Rattle.sig_dsse.specs.declared.artifact_digest.ArtifactDigest.{ArtifactDigest}
+use Rattle.sig_base.specs.Sha256.{sha256}
 use Rattle.sig_timestamp.proofs.EmbeddedLaws.{embedded}
 use Rattle.sig_timestamp.specs.Embedded.{IsSaidOf, ready}
 use Rattle.sig_timestamp.specs.Keyring.{vouch}
@@ -108,7 +109,7 @@ module _ (k : Checker) (policy : PolicyOf) (trusted : Trusted) (d : ArtifactDige
   -- the certificate has an SCT: this is what it signs
   has_read : (spki : List ℕ) (t : SctType) → HasSct c t
       → Answers OutOfMemory (λ (x : DigitallySigned). x) (ready c spki (sct_of c)) (Ok (signed_of c spki t))
-  has_read spki t has = (embedded c spki (ready c spki (sct_of c)) (itself (ready c spki (sct_of c))) said).has t has
+  has_read spki t has = (embedded c (sha256 spki) (ready c spki (sct_of c)) (itself (ready c spki (sct_of c))) said).has t has
 
   -- the check of the SCT says whether its link holds
   abbrev SaysSct : Result (Unit {0}) SCTError → Type 0

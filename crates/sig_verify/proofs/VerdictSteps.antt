@@ -6,6 +6,7 @@ use Rattle.std.specs.Prelude.{◌⊎◌}
 use Rattle.sig_base.proofs.ResultSteps.{err_is}
 use Rattle.sig_base.specs.Answers.{ComesWhere, OrMemory, UnlessMemory}
 use Rattle.sig_base.specs.ResultSteps.{◌>>=◌}
+use Rattle.sig_base.specs.Sha256.{sha256}
 use Rattle.sig_base.specs.declared.scheme.VerifyScheme.{VerifyScheme}
 use Rattle.sig_checked_bundle.proofs.Certificates.{further-few}
 use Rattle.sig_checked_bundle.specs.Checked.{Checked, IsChecked}
@@ -19,7 +20,7 @@ use Rattle.sig_x509.specs.Pool.{pool_over}
 use Rattle.sig_verify.specs.ContentCheck.{certificate_key_answer, content_answer, if_about, is_about, signature_answer}
 use Rattle.sig_verify.specs.ContentCheck.{time_answer}
 use Rattle.sig_verify.specs.Errors.{of_bundle}
-use Rattle.sig_verify.specs.IssuerCheck.{from_sct, issued_answer, issuer_spki, sct_answer}
+use Rattle.sig_verify.specs.IssuerCheck.{from_sct, issued_answer, issuer_key_hash, issuer_spki, sct_answer_with}
 use Rattle.sig_verify.specs.Verdict.{After, AfterBody, AfterPolicy, Answer, Checker, IsDone, IsVerdict, PolicyOf}
 use Rattle.sig_verify.specs.Verdict.{IsVerdictFromBody, IsVerdictFromIssuance, IsVerdictFromKey, IsVerdictFromPolicy}
 use Rattle.sig_verify.specs.Verifier.{Trusted}
@@ -109,27 +110,36 @@ module _ (k : Checker) (trusted : Trusted) (policy : PolicyOf) (d : ArtifactDige
       signature_answer (k.spki key.0 key.1) (k.prehash key.0 key.1) d c.content c.signature
       >>= λ _. if_about (is_about c.content d)
 
-  -- what the SCT is under the issuer's key
+  -- what the SCT is under the issuer's key, by its hash
   abbrev of_issuer : List ℕ → Answer
-  of_issuer spki = from_sct (sct_answer k.point trusted.ring c.certificate spki)
+  of_issuer hash = from_sct (sct_answer_with k.point trusted.ring c.certificate hash)
 
   abbrev Issuer : Result (List ℕ) VerificationError → Type 0
-  Issuer answer = issuer_spki k.cert (pool_over trusted.anchors c.further) c.certificate ≡ answer
+  Issuer answer = issuer_key_hash k.cert (pool_over trusted.anchors c.further) c.certificate ≡ answer
+
+  by_hash : issued_answer k.cert k.point trusted c
+      ≡ (issuer_key_hash k.cert (pool_over trusted.anchors c.further) c.certificate >>= of_issuer)
+  by_hash = by (issuer_spki k.cert (pool_over trusted.anchors c.further) c.certificate)
+    where
+      by : (r : Result (List ℕ) VerificationError) → (r >>= λ spki. of_issuer (sha256 spki))
+          ≡ (r >>= (λ spki. Ok (sha256 spki)) >>= of_issuer)
+      by (Ok spki) = refl
+      by (Err e) = refl
 
   pub issuer_failed : (e : VerificationError) → OrMemory OutOfMemory e (Issuer (Err e)) → Verdict (Err e)
   issuer_failed e (inl memory) = inl (ap Err memory)
   issuer_failed e (inr is) =
-      issuing (Err e) (Err e) (ap (λ (r : Result (List ℕ) VerificationError). r >>= of_issuer) is) refl
+      issuing (Err e) (Err e) (by_hash ∙ ap (λ (r : Result (List ℕ) VerificationError). r >>= of_issuer) is) refl
 
-  module _ (spki : List ℕ) (found : Issuer (Ok spki)) where
-    issued : (answer : Answer) → of_issuer spki ≡ answer → issued_answer k.cert k.point trusted c ≡ answer
-    issued answer is = ap (λ (r : Result (List ℕ) VerificationError). r >>= of_issuer) found ∙ is
+  module _ (hash : List ℕ) (found : Issuer (Ok hash)) where
+    issued : (answer : Answer) → of_issuer hash ≡ answer → issued_answer k.cert k.point trusted c ≡ answer
+    issued answer is = by_hash ∙ ap (λ (r : Result (List ℕ) VerificationError). r >>= of_issuer) found ∙ is
 
-    pub sct_failed : (e : VerificationError) → OrMemory OutOfMemory e (of_issuer spki ≡ Err e) → Verdict (Err e)
+    pub sct_failed : (e : VerificationError) → OrMemory OutOfMemory e (of_issuer hash ≡ Err e) → Verdict (Err e)
     sct_failed e (inl memory) = inl (ap Err memory)
     sct_failed e (inr is) = issuing (Err e) (Err e) (issued (Err e) is) refl
 
-    module _ (vouched : of_issuer spki ≡ Ok tt) where
+    module _ (vouched : of_issuer hash ≡ Ok tt) where
       abbrev AfterPolicyOf : (Answer → Type 0) → Answer → Type 0
       AfterPolicyOf Next = AfterPolicy (policy.holds c.certificate) (policy.refusal c.certificate) Next
 

@@ -1,6 +1,7 @@
 -- What a verifier trusts, and why there is none.
 use Rattle.std.specs.Prelude.{◌≡◌, ◌⊎◌, ℕ, List, map, Result, Ok, Err}
 use Rattle.sig_base.specs.Answers.{OrMemory}
+use Rattle.sig_base.specs.Sha256.{sha256}
 use Rattle.sig_base.specs.declared.error.SigstoreError.{SigstoreError}
 use Rattle.sig_base.specs.declared.error.SigstoreError.TheVariants.{CertificatePoolError, OutOfMemory}
 use Rattle.sig_base.specs.declared.fault.PoolError.TheVariants.{Anchor}
@@ -13,6 +14,10 @@ use Rattle.sig_x509.specs.Issuance.{AreAnchors, IsFirstNoAnchor}
 pub record Trusted : Type 0 where
   pub anchors : List Cert
   pub ring : List (List ℕ × RingKey)
+
+-- the SHA-256 of the SPKI of each trust anchor
+abbrev pub key_hashes_of : List Cert → List (List ℕ)
+key_hashes_of anchors = map (λ x. sha256 x.spki) anchors
 
 abbrev pub Authorities : Type 0
 Authorities = Result (List (List ℕ)) SigstoreError

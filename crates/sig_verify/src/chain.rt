@@ -4,7 +4,7 @@ ghost use Rattle.sig_base.specs.Answers.{UnlessMemory};
 ghost use Rattle.sig_bundle.specs.BundleRecord.{bundle_in};
 ghost use Rattle.sig_verify.specs.HeldRoot.{IsHeldOf, IsOfflineUnder, IsVerdictUnder};
 ghost use Rattle.sig_verify.specs.OfflineLaws.{IsOfBundleOfBytes};
-ghost use Rattle.sig_verify.specs.OfflineVerdict.{AfterRead, IsOfflineOf};
+ghost use Rattle.sig_verify.specs.OfflineVerdict.{AfterRead};
 ghost use Rattle.sig_verify.specs.OfflineVerdict.{borrowed_entry, only_entry_of};
 ghost use Rattle.sig_verify.specs.Outcome.{GoesBySteps, KeepsEntry, ShowsFirstLink, inputs_of, outside_of};
 ghost use Rattle.sig_verify.specs.Verdict.{checker_of, policy_of};
@@ -19,7 +19,6 @@ use crate::offline_error::{OfflineError, Part, json_error, verification_error};
 use sig_base::SignatureChecker;
 use sig_bundle::{ArtifactDigest, Bundle, TransparencyLogEntry, read_bundle};
 use sig_checked_bundle::laws::is_certificate_bytes;
-use sig_root::SigstoreTrustRoot;
 use sig_x509::VerificationPolicy;
 use std::alloc::Global;
 
@@ -59,33 +58,6 @@ pub fn verify_offline<P: VerificationPolicy, C: SignatureChecker>(
         checker,
     };
     held.judge(bundle, &inputs)
-}
-
-/// Checks the links of [`verify_offline`] after `bundle-json`, of a trusted root and a bundle that were read; so a
-/// caller that needs both reads each text once. The error is that of the first link that fails; or `OutOfMemory`.
-pub fn verify_parts<P: VerificationPolicy, C: SignatureChecker>(
-    alloc: Global,
-    root: &SigstoreTrustRoot,
-    now: i64,
-    digest: &ArtifactDigest,
-    bundle: &Bundle,
-    policy: &P,
-    checker: &C,
-) -> Result<LoggedEntry, OfflineError>
-    // By the steps. `laws::outcomes` says what they mean of the texts that root and bundle were read from.
-    ensures { UnlessMemory OfflineError.OutOfMemory result (IsOfflineOf
-        (checker_of C.SignatureChecker checker.now)
-        (policy_of P.VerificationPolicy policy.now)
-        root.now now digest.now bundle.now result) }
-{
-    let held = HeldRoot::new(alloc, root, now)?;
-    let inputs = LinkInputs {
-        alloc,
-        digest,
-        policy,
-        checker,
-    };
-    held.check_bundle(bundle, &inputs)
 }
 
 impl HeldRoot {

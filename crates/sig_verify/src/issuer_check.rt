@@ -1,14 +1,15 @@
 //! Whether a certification path leads from a bundle's certificate to a trust anchor, and whether a Certificate
 //! Transparency log vouches for the certificate.
-ghost use Rattle.std.specs.Prelude.{◌≡◌, ◌≤◌, [], length, option_map};
+ghost use Rattle.std.specs.Prelude.{◌≡◌, ◌≤◌, [], length};
 ghost use Rattle.sig_base.specs.Answers.{Answers};
-ghost use Rattle.sig_verify.specs.IssuerCheck.{from_sct, issuer_spki, path_start, sct_answer, spki_of};
+ghost use Rattle.sig_verify.specs.IssuerCheck.{from_sct, issuer_key_hash, key_hash_of, path_start, sct_answer_with};
+ghost use Rattle.sig_verify.specs.Verifier.{key_hashes_of};
 ghost use Rattle.sig_x509.specs.Pool.{pool_over};
 
 use crate::error::{VerificationError, VerificationResult};
 use crate::link_inputs::LinkInputs;
 use crate::verifier::Verifier;
-use sig_base::SignatureChecker;
+use sig_base::{SignatureChecker, sha256};
 use sig_checked_bundle::CheckedBundle;
 use sig_x509::uncounted::verify_cert_with_chain;
 use sig_x509::{
@@ -19,40 +20,49 @@ use std::alloc::Global;
 
 impl Verifier {
     /// The links `issuance` and `issuer`: whether the certificate has the profile of one that is issued, and a
-    /// certification path leads from it over the further ones to a trust anchor. Returns the SubjectPublicKeyInfo of
-    /// the first issuer in such a path. One call, since the search for a path looks at the certificate's profile first.
-    pub(crate) fn check_issuance_and_issuer<'a, P, C: SignatureChecker>(
-        &'a self,
-        bundle: &'a CheckedBundle,
+    /// certification path leads from it over the further ones to a trust anchor. Returns the SHA-256 of the
+    /// SubjectPublicKeyInfo of the first issuer in such a path. One call, since the search for a path looks at the
+    /// certificate's profile first.
+    pub(crate) fn check_issuance_and_issuer<P, C: SignatureChecker>(
+        &self,
+        bundle: &CheckedBundle,
         inputs: &LinkInputs<'_, P, C>,
-    ) -> Result<&'a [u8], VerificationError>
+    ) -> Result<[u8; 32], VerificationError>
         requires few { length bundle.now.further ≤ 16 }
-        ensures { Answers VerificationError.OutOfMemory (λ spki. spki.now) result (issuer_spki
+        ensures { Answers VerificationError.OutOfMemory (λ hash. hash) result (issuer_key_hash
             (C.cert_accepts inputs.now.checker.now) (pool_over self.now.anchors bundle.now.further)
             bundle.now.certificate) }
     {
         let leaf = bundle.certificate();
         let further = bundle.further();
-        issuer_spki(inputs.alloc, &self.pool, leaf, further, inputs.checker)
+        let hashes = self.key_hashes.as_slice();
+        issuer_key_hash(
+            inputs.alloc,
+            &self.pool,
+            hashes,
+            leaf,
+            further,
+            inputs.checker,
+        )
     }
 
-    /// The link `sct`: whether a Certificate Transparency log vouches for the certificate, whose issuer has this
-    /// SubjectPublicKeyInfo.
+    /// The link `sct`: whether a Certificate Transparency log vouches for the certificate, whose issuer has a
+    /// SubjectPublicKeyInfo of this SHA-256.
     pub(crate) fn check_sct<P, C: SignatureChecker>(
         &self,
         bundle: &CheckedBundle,
-        issuer_spki: &[u8],
+        issuer_key_hash: [u8; 32],
         inputs: &LinkInputs<'_, P, C>,
     ) -> VerificationResult
-        ensures { Answers VerificationError.OutOfMemory (λ done. done) result (from_sct (sct_answer
-            (C.point_accepts inputs.now.checker.now) self.now.ring bundle.now.certificate issuer_spki.now)) }
+        ensures { Answers VerificationError.OutOfMemory (λ done. done) result (from_sct (sct_answer_with
+            (C.point_accepts inputs.now.checker.now) self.now.ring bundle.now.certificate issuer_key_hash)) }
     {
         let leaf = bundle.certificate();
         // A `match`, not `?`: the proof needs what each arm says.
         match judge_sct(
             inputs.alloc,
             leaf,
-            issuer_spki,
+            issuer_key_hash,
             &self.keyring,
             inputs.checker,
         ) {
@@ -62,22 +72,25 @@ impl Verifier {
     }
 }
 
-/// The SubjectPublicKeyInfo of the first issuer in a certification path. The pool has no intermediates of its own.
-fn issuer_spki<'a, C: SignatureChecker>(
+/// The SHA-256 of the SubjectPublicKeyInfo of the first issuer in a certification path. The pool has no intermediates of
+/// its own, and the hashes are those of its trust anchors.
+fn issuer_key_hash<C: SignatureChecker>(
     alloc: Global,
-    pool: &'a CertificatePool,
+    pool: &CertificatePool,
+    hashes: &[[u8; 32]],
     leaf: &Certificate,
-    further: &'a [Certificate],
+    further: &[Certificate],
     checker: &C,
-) -> Result<&'a [u8], VerificationError>
+) -> Result<[u8; 32], VerificationError>
     requires alone { pool.now.intermediates ≡ [] }
+    requires hashed { hashes.now ≡ key_hashes_of pool.now.anchors }
     requires few { length further.now ≤ 16 }
-    ensures { Answers VerificationError.OutOfMemory (λ spki. spki.now) result
-        (issuer_spki (C.cert_accepts checker.now) (pool_over pool.now.anchors further.now) leaf.now) }
+    ensures { Answers VerificationError.OutOfMemory (λ hash. hash) result
+        (issuer_key_hash (C.cert_accepts checker.now) (pool_over pool.now.anchors further.now) leaf.now) }
 {
     let issuer = path_start(alloc, pool, leaf, further, checker)?;
-    match spki_of(pool, further, issuer) {
-        Some(spki) => Ok(spki),
+    match key_hash_of(hashes, further, issuer) {
+        Some(hash) => Ok(hash),
         None => unreachable!(),
     }
 }
@@ -104,35 +117,31 @@ fn path_start<C: SignatureChecker>(
     }
 }
 
-/// The SubjectPublicKeyInfo of a trust anchor, or of a further certificate.
-fn spki_of<'a>(
-    pool: &'a CertificatePool,
-    further: &'a [Certificate],
-    issuer: Issuer,
-) -> Option<&'a [u8]>
-    ensures { option_map (λ spki. spki.now) result ≡ spki_of (pool_over pool.now.anchors further.now) issuer }
+/// The SHA-256 of the SubjectPublicKeyInfo of a trust anchor, by the hashes of all, or of a further certificate.
+fn key_hash_of(hashes: &[[u8; 32]], further: &[Certificate], issuer: Issuer) -> Option<[u8; 32]>
+    ensures { result ≡ key_hash_of hashes.now further.now issuer }
 {
     match issuer {
-        Issuer::Anchor(_) => pool.issuer_spki(issuer),
+        Issuer::Anchor(index) => hashes.get(index).copied(),
         Issuer::Intermediate(index) => match further.get(index) {
-            Some(certificate) => Some(certificate.spki()),
+            Some(certificate) => Some(sha256(certificate.spki())),
             None => None,
         },
     }
 }
 
-/// Whether the log of the certificate's SCT vouches for it, where its issuer has this SubjectPublicKeyInfo.
+/// Whether the log of the certificate's SCT vouches for it, where its issuer has a SubjectPublicKeyInfo of this SHA-256.
 fn judge_sct<C: SignatureChecker>(
     alloc: Global,
     leaf: &Certificate,
-    issuer_spki: &[u8],
+    issuer_key_hash: [u8; 32],
     keyring: &Keyring,
     checker: &C,
 ) -> Result<(), SCTError>
     ensures { Answers SCTError.OutOfMemory (λ done. done) result
-        (sct_answer (C.point_accepts checker.now) keyring.now leaf.now issuer_spki.now) }
+        (sct_answer_with (C.point_accepts checker.now) keyring.now leaf.now issuer_key_hash) }
 {
-    let embedded = CertificateEmbeddedSCT::new_with_verified_path(alloc, leaf, issuer_spki)?;
+    let embedded = CertificateEmbeddedSCT::new_with_issuer_key_hash(alloc, leaf, issuer_key_hash)?;
     let signed = DigitallySigned::from_embedded(alloc, &embedded)?;
     verify_sct(alloc, &signed, keyring, checker)
 }

@@ -25,7 +25,7 @@ mod verify;
 mod verify_artifact;
 
 pub use artifact::InputFault;
-pub use chain::{verify_offline, verify_parts};
+pub use chain::verify_offline;
 pub use error::{CertificateErrorKind, SignatureErrorKind, VerificationError, VerificationResult};
 pub use held_root::HeldRoot;
 pub use link::Link;

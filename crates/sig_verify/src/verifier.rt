@@ -1,19 +1,21 @@
 //! `Verifier`: what bundles are verified against.
 ghost use Rattle.std.specs.Prelude.{◌≡◌, [], IfOk, IfErr};
 ghost use Rattle.sig_x509.specs.Issuance.{AreAnchors};
-ghost use Rattle.sig_verify.specs.Verifier.{HasKeys, IsRefusedPool, IsRefusedRoot, IsVerifierOf, values_of};
+ghost use Rattle.sig_verify.specs.Verifier.{HasKeys, IsRefusedPool, IsRefusedRoot, IsVerifierOf, key_hashes_of, values_of};
 
-use sig_base::{Entries, KeyMap, OutOfMemory, PoolError, SigstoreError};
+use sig_base::{Entries, Hashes, KeyMap, OutOfMemory, PoolError, SigstoreError, sha256};
 use sig_root::TrustRoot;
-use sig_x509::{CertificatePool, Keyring, KeyringError};
+use sig_x509::{Certificate, CertificatePool, Keyring, KeyringError};
 use std::alloc::Global;
 use std::marker::Model;
 
 /// The trust anchors and the keys of Certificate Transparency logs that bundles are verified against. Contracts see
-/// both.
+/// both. Beside them are the SHA-256 hashes of the trust anchors' SubjectPublicKeyInfos, which the SCTs of many bundles
+/// are checked with.
 #[derive(Drop)]
 pub struct Verifier {
     pub(crate) pool: CertificatePool,
+    pub(crate) key_hashes: Hashes,
     pub(crate) keyring: Keyring,
 }
 
@@ -25,8 +27,9 @@ impl Model for Verifier {
     ghost view = { λ v. record { anchors = v.pool.anchors; ring = v.keyring } };
 
     ghost use Rattle.std.specs.Prelude.{◌≡◌, []};
+    ghost use Rattle.sig_verify.specs.Verifier.{key_hashes_of};
 
-    ghost invariant = { λ v. v.pool.intermediates ≡ [] };
+    ghost invariant = { λ v. (v.pool.intermediates ≡ []) × (v.key_hashes ≡ key_hashes_of v.pool.anchors) };
 }
 
 impl Verifier {
@@ -45,9 +48,14 @@ impl Verifier {
     {
         let certs = trust_repo.fulcio_certs(alloc, now)?;
         let pool = pool_of(alloc, &certs)?;
+        let key_hashes = key_hashes_of(alloc, pool.anchors())?;
         let keys = trust_repo.ctfe_keys(alloc, now)?;
         let keyring = keyring_of(alloc, &keys)?;
-        Ok(Verifier { pool, keyring })
+        Ok(Verifier {
+            pool,
+            key_hashes,
+            keyring,
+        })
     }
 }
 
@@ -64,6 +72,17 @@ fn pool_of(alloc: Global, certs: &Entries) -> sig_base::Result<CertificatePool>
         Err(PoolError::OutOfMemory) => Err(SigstoreError::OutOfMemory),
         Err(error) => Err(SigstoreError::CertificatePoolError(error)),
     }
+}
+
+/// Returns the SHA-256 of the SubjectPublicKeyInfo of each trust anchor. Fails only if out of memory.
+fn key_hashes_of(alloc: Global, anchors: &[Certificate]) -> Result<Hashes, OutOfMemory>
+    ensures { IfOk result (λ hashes. hashes ≡ key_hashes_of anchors.now) }
+{
+    let mut hashes = Hashes::new(alloc);
+    'anchors: for anchor in anchors {
+        hashes.push(sha256(anchor.spki()))?;
+    }
+    Ok(hashes)
 }
 
 /// Returns the keyring of the keys of a map; of keys with one id it has the last. Fails only if out of memory.

@@ -104,8 +104,8 @@ impl Verifier {
             self.now (policy_of P.VerificationPolicy inputs.now.policy.now)
             inputs.now.digest.now offline bundle.now result) }
     {
-        let issuer_spki = self.check_issuance_and_issuer(bundle, inputs)?;
-        self.check_sct(bundle, issuer_spki, inputs)?;
+        let issuer_key_hash = self.check_issuance_and_issuer(bundle, inputs)?;
+        self.check_sct(bundle, issuer_key_hash, inputs)?;
         check_policy(bundle, inputs)?;
         let key = check_key(inputs.alloc, bundle)?;
         check_signature(bundle, &key, inputs)?;

@@ -1,15 +1,15 @@
 -- The trust anchors by subject and key: the order is total, and what is found by it is the first that has them.
-use Rattle.std.proofs.Common.{◌≡◌, ℕ, ◌+◌, ◌-◌, ◌<◌, ◌≤◌, Bool, true, false, ◌&&◌, ◌||◌, cond, List, [], ◌∷◌, ◌++◌}
-use Rattle.std.proofs.Common.{length, get_or, Option, Some, None, Err, slice_get, refl, sym, ap, subst}
+use Rattle.std.proofs.Common.{◌≡◌, ℕ, ◌+◌, ◌<◌, ◌≤◌, Bool, true, false, ◌&&◌, ◌||◌, cond, List, [], ◌∷◌, ◌++◌}
+use Rattle.std.proofs.Common.{length, get_or, Option, Some, None, slice_get, refl, sym, ap, subst}
 use Rattle.std.proofs.Common.{◌∙◌, arith, leb, take, ⊎_elim}
 use Rattle.std.specs.Prelude.{Contains, bytes_eq, position}
-use Rattle.std.specs.List.{list_any, slice_range}
-use Rattle.std.specs.List.Sorted.{IsBinarySearchResult, IsNonDecreasingBy}
+use Rattle.std.specs.List.{list_any}
+use Rattle.std.specs.List.Sorted.{IsNonDecreasingBy}
 use Rattle.std.specs.Option.{option_cmp, option_map}
 use Rattle.std.specs.Cmp.{IsTotalOrder}
 use Rattle.std.specs.Cmp.Lexicographic.{options_total}
 use Rattle.std.specs.declared.cmp.Ordering.{Ordering}
-use Rattle.std.specs.Ordering.{is_gt, is_lt, ordering_index}
+use Rattle.std.specs.Ordering.{ordering_index}
 use Rattle.std.specs.declared.cmp.Ordering.TheVariants.{Equal, Greater, Less}
 use Rattle.std.proofs.lemmas.Bool.{and_from, and_parts, cases_lt, leb-true, leb-false}
 use Rattle.std.proofs.lemmas.Cmp.{then_total, on_total, nat_list_cmp_total, tied_itself}
@@ -19,7 +19,6 @@ use Rattle.std.proofs.lemmas.Map.Lookups.{CmpEqualImpliesEq, exact_bytes}
 use Rattle.std.proofs.lemmas.List.{take_more}
 use Rattle.std.proofs.lemmas.Option.{get_or_from_slice_get, slice_get-get_or, slice_get_within}
 use Rattle.std.proofs.lemmas.Slice.Eq.{bytes_eq-Decides}
-use Rattle.sig_base.proofs.CertKeys.{get_range, length_range}
 use Rattle.sig_base.proofs.Orderings.{both_tie, unequal_decides, equal_passes}
 use Rattle.sig_certificate.specs.Certificate.{Cert}
 use Rattle.sig_x509.specs.AskedAnchors.{IsFirstOfItsKey}
@@ -55,26 +54,21 @@ has_to subject spki x has =
 
 -- ---- what one comparison says of the others
 
-lt_below : (o p : Ordering) → ordering_index o ≤ ordering_index p → is_lt p ≡ true → is_lt o ≡ true
-lt_below Less p le e = refl
-lt_below Equal Less le e = absurd (omega arith)
-lt_below Equal Equal le e = absurd cc
-lt_below Equal Greater le e = absurd cc
-lt_below Greater Less le e = absurd (omega arith)
-lt_below Greater Equal le e = absurd cc
-lt_below Greater Greater le e = absurd cc
+less_below : (o p : Ordering) → ordering_index o ≤ ordering_index p → p ≡ Less → o ≡ Less
+less_below Less p le e = refl
+less_below Equal Less le e = absurd (omega arith)
+less_below Equal Equal le e = absurd cc
+less_below Equal Greater le e = absurd cc
+less_below Greater Less le e = absurd (omega arith)
+less_below Greater Equal le e = absurd cc
+less_below Greater Greater le e = absurd cc
 
-only_less : (o : Ordering) → is_lt o ≡ true → o ≡ Less
-only_less Less e = refl
-only_less Equal e = absurd cc
-only_less Greater e = absurd cc
-
-gt_above : (o p : Ordering) → ordering_index o ≤ ordering_index p → is_gt o ≡ true → p ≡ Greater
-gt_above Less p le e = absurd cc
-gt_above Equal p le e = absurd cc
-gt_above Greater Less le e = absurd (omega arith)
-gt_above Greater Equal le e = absurd (omega arith)
-gt_above Greater Greater le e = refl
+greater_above : (o p : Ordering) → ordering_index o ≤ ordering_index p → o ≡ Greater → p ≡ Greater
+greater_above Less p le e = absurd cc
+greater_above Equal p le e = absurd cc
+greater_above Greater Less le e = absurd (omega arith)
+greater_above Greater Equal le e = absurd (omega arith)
+greater_above Greater Greater le e = refl
 
 module _ (anchors : List Cert) (order : List ℕ) (is : IsKeyOrder anchors order) (subject spki : List ℕ) where
   -- what the search asks of each index
@@ -86,47 +80,60 @@ module _ (anchors : List Cert) (order : List ℕ) (is : IsKeyOrder anchors order
       searchable_from_sorted (options_total signer_order_total) (λ index. signer_at anchors index) order
       (Some (subject, spki)) is.ascends
 
-  part_rises : (start end : ℕ) → start ≤ end → end ≤ length order
-      → IsNonDecreasingBy (λ index. ordering_index (sought index)) (slice_range order start end)
-  part_rises start end le within i j d low high =
-      let size : length (slice_range order start end) ≡ end - start = length_range order start end le within in
-      subst (λ (n : ℕ). ordering_index (sought n) ≤ ordering_index (sought (get_or (slice_range order start end) j d)))
-      (sym (get_range order start end i d (omega (arith, size))))
-      (subst (λ (n : ℕ). ordering_index (sought (get_or order (start + i) d)) ≤ ordering_index (sought n))
-      (sym (get_range order start end j d (omega (arith, size))))
-      (rises (start + i) (start + j) d (omega arith) (omega (arith, size))))
-
   at_place : (k index : ℕ) → slice_get order k ≡ Some index → (k < length order) × (get_or order k 0 ≡ index)
   at_place k index there =
       (slice_get_within order k index there, get_or_from_slice_get order k index 0 there)
 
   -- those before one that comes before the signer do too
-  pub less_before : (k index : ℕ) → slice_get order k ≡ Some index → is_lt (sought index) ≡ true
+  less_before : (k : ℕ) → k < length order → sought (get_or order k 0) ≡ Less
       → AreLessBefore anchors order (subject, spki) (k + 1)
-  less_before k index there less =
-      let at = at_place k index there in (
-        omega (arith, at.0),
-        λ j other lt got. let here = at_place j other got in
-            only_less (sought other) (lt_below (sought other) (sought index)
-            (subst (λ (i : ℕ). ordering_index (sought other) ≤ ordering_index (sought i)) at.1
-            (subst (λ (i : ℕ). ordering_index (sought i) ≤ ordering_index (sought (get_or order k 0))) here.1
-            (rises j k 0 (omega arith) at.0))) less),
-      )
+  less_before k within less = (
+    omega (arith, within),
+    λ j other lt got. let here = at_place j other got in
+        less_below (sought other) (sought (get_or order k 0))
+        (subst (λ (i : ℕ). ordering_index (sought i) ≤ ordering_index (sought (get_or order k 0))) here.1
+        (rises j k 0 (omega arith) within)) less,
+  )
 
   -- those after one that comes after the signer do too
-  pub greater_from : (k index : ℕ) → slice_get order k ≡ Some index → is_gt (sought index) ≡ true
+  greater_from : (k : ℕ) → k < length order → sought (get_or order k 0) ≡ Greater
       → AreGreaterFrom anchors order (subject, spki) k
-  greater_from k index there greater j other le got =
-      let at = at_place k index there in
+  greater_from k within greater j other le got =
       let here = at_place j other got in
-      gt_above (sought index) (sought other)
-      (subst (λ (i : ℕ). ordering_index (sought index) ≤ ordering_index (sought i)) here.1
-      (subst (λ (i : ℕ). ordering_index (sought i) ≤ ordering_index (sought (get_or order j 0))) at.1
-      (rises k j 0 le here.0))) greater
+      greater_above (sought (get_or order k 0)) (sought other)
+      (subst (λ (i : ℕ). ordering_index (sought (get_or order k 0)) ≤ ordering_index (sought i)) here.1
+      (rises k j 0 le here.0)) greater
 
-  pub none_from : (place : ℕ) → length order ≤ place → AreGreaterFrom anchors order (subject, spki) place
-  none_from place past j other le got =
-      let here = at_place j other got in absurd (omega (arith, here.0))
+  -- the signer may have any place
+  pub all_places : IsPart anchors order (subject, spki) 0 (length order)
+  all_places =
+      record {
+        before = (omega arith, λ k index lt got. absurd (omega (arith, lt)));
+        after = λ j other le got. let here = at_place j other got in absurd (omega (arith, le, here.0));
+        ordered = omega arith;
+        within = omega arith;
+      }
+
+  -- of a part, what is left after a comparison
+  pub part_after : (start end k : ℕ) → IsPart anchors order (subject, spki) start end → start ≤ k → k < end
+      → sought (get_or order k 0) ≡ Less → IsPart anchors order (subject, spki) (k + 1) end
+  part_after start end k part from below less =
+      record {
+        before = less_before k (omega (arith, below, part.within)) less;
+        after = part.after;
+        ordered = omega (arith, below);
+        within = part.within;
+      }
+
+  pub part_before : (start end k : ℕ) → IsPart anchors order (subject, spki) start end → start ≤ k → k < end
+      → sought (get_or order k 0) ≡ Greater → IsPart anchors order (subject, spki) start k
+  part_before start end k part from below greater =
+      record {
+        before = part.before;
+        after = greater_from k (omega (arith, below, part.within)) greater;
+        ordered = from;
+        within = omega (arith, below, part.within);
+      }
 
   tied : (o : Option Cert) → option_cmp signer_order (option_map signer_of o) (Some (subject, spki)) ≡ Equal
       → (x : Cert) × (o ≡ Some x) × (signer_of x ≡ (subject, spki))
@@ -140,13 +147,13 @@ module _ (anchors : List Cert) (order : List ℕ) (is : IsKeyOrder anchors order
       ∙ ap (λ (s : Signer). signer_order s (subject, spki)) (has_to subject spki x has)
       ∙ tied_itself signer_order_total (subject, spki)
 
-  first_of : (index : ℕ) → Contains order index → IsFirstOfItsKey anchors index
+  pub first_of : (index : ℕ) → Contains order index → IsFirstOfItsKey anchors index
   first_of index has =
       All-contains (IsFirstOfItsKey anchors) is.asked index is.are_asked.firsts
       (Contains-permutation order is.asked index (IsPermutation-sym is.asked order is.moved) has)
 
   -- an index that the search finds
-  found_first : (place : ℕ) → place < length order → sought (get_or order place 0) ≡ Equal
+  pub found_first : (place : ℕ) → place < length order → sought (get_or order place 0) ≡ Equal
       → Some (get_or order place 0) ≡ position (has_key subject spki) anchors
   found_first place within tie =
       let index : ℕ = get_or order place 0 in
@@ -167,59 +174,29 @@ module _ (anchors : List Cert) (order : List ℕ) (is : IsKeyOrder anchors order
             spki = ap (λ (s : Signer). s.1) (one ∙ sym found.2) ∙ ap (λ (x : Cert). x.spki) (sym same);
           }))
 
-  module _ (start end : ℕ) (part : IsPart anchors order (subject, spki) start end) where
-    -- an index that the search of a part finds
-    pub found_in : (place : ℕ) → place < length (slice_range order start end)
-        → sought (get_or (slice_range order start end) place 0) ≡ Equal
-        → Some (get_or (slice_range order start end) place 0) ≡ position (has_key subject spki) anchors
-    found_in place within tie =
-        let size : length (slice_range order start end) ≡ end - start =
-        length_range order start end part.ordered part.within in
-        let at : get_or (slice_range order start end) place 0 ≡ get_or order (start + place) 0 =
-        get_range order start end place 0 (omega (arith, size)) in
-        ap (λ (i : ℕ). Some i) at
-        ∙ found_first (start + place) (omega (arith, size, part.within)) (ap sought (sym at) ∙ tie)
+  -- where no place is left
+  pub none_left : (start end : ℕ) → IsPart anchors order (subject, spki) start end → end ≤ start
+      → None ≡ position (has_key subject spki) anchors
+  none_left start end part empty =
+      sym (position_nowhere (has_key subject spki) anchors (λ k x there. by k x there (has_key subject spki x) refl))
+    where
+      nowhere : (k index : ℕ) → slice_get order k ≡ Some index → sought index ≡ Equal → ⊥
+      nowhere k index there tie =
+          ⊎_elim
+          (λ before. let less = part.before.1 k index before there in absurd (cc (less, tie)))
+          (λ low. let greater = part.after k index (omega (arith, low, empty)) there in absurd (cc (greater, tie)))
+          (cases_lt k start)
 
-    -- where the search of a part finds none
-    pub none_in : (place : ℕ) → IsBinarySearchResult sought (slice_range order start end) (Err place)
-        → None ≡ position (has_key subject spki) anchors
-    none_in place result =
-        sym (position_nowhere (has_key subject spki) anchors (λ k x there. by k x there (has_key subject spki x) refl))
-      where
-        inside : (k index : ℕ) → slice_get order k ≡ Some index → start ≤ k → k < end → sought index ≡ Equal → ⊥
-        inside k index there low high tie =
-            let at : get_or (slice_range order start end) (k - start) index ≡ index =
-            get_range order start end (k - start) index (omega arith)
-            ∙ ap (λ (n : ℕ). get_or order n index) {x = start + (k - start)} {y = k} (omega arith)
-            ∙ get_or_from_slice_get order k index index there in
-            let size : length (slice_range order start end) ≡ end - start =
-            length_range order start end part.ordered part.within in
-            let parts = result (part_rises start end part.ordered part.within) in
-            ⊎_elim
-            (λ before. let less = parts.0 (k - start) index (omega arith) before in absurd (cc (less, at, tie)))
-            (λ after. let greater = parts.1 (k - start) index after (omega (arith, size)) in absurd (cc (greater, at, tie)))
-            (cases_lt (k - start) place)
-
-        nowhere : (k index : ℕ) → slice_get order k ≡ Some index → sought index ≡ Equal → ⊥
-        nowhere k index there tie =
-            ⊎_elim
-            (λ before. let less = part.before.1 k index before there in absurd (cc (less, tie)))
-            (λ low. ⊎_elim
-            (λ high. inside k index there low high tie)
-            (λ after. let greater = part.after k index after there in absurd (cc (greater, tie)))
-            (cases_lt k end))
-            (cases_lt k start)
-
-        by : (k : ℕ) (x : Cert) → slice_get anchors k ≡ Some x → (b : Bool) → has_key subject spki x ≡ b → b ≡ false
-        by k x there false e = refl
-        by k x there true e =
-            let cover = is.are_asked.covers k x there in
-            let place_of = Contains-permutation is.asked order cover.first is.moved cover.is_asked in
-            let same : has_key subject spki cover.anchor ≡ true =
-            ap (λ (s : List ℕ). bytes_eq subject s && bytes_eq spki cover.anchor.spki) cover.same.subject
-            ∙ ap (λ (s : List ℕ). bytes_eq subject x.subject && bytes_eq spki s) cover.same.spki ∙ e in
-            absurd (nowhere place_of.0 cover.first (at_contained order cover.first place_of)
-            (ties cover.first cover.anchor cover.there same))
+      by : (k : ℕ) (x : Cert) → slice_get anchors k ≡ Some x → (b : Bool) → has_key subject spki x ≡ b → b ≡ false
+      by k x there false e = refl
+      by k x there true e =
+          let cover = is.are_asked.covers k x there in
+          let place_of = Contains-permutation is.asked order cover.first is.moved cover.is_asked in
+          let same : has_key subject spki cover.anchor ≡ true =
+          ap (λ (s : List ℕ). bytes_eq subject s && bytes_eq spki cover.anchor.spki) cover.same.subject
+          ∙ ap (λ (s : List ℕ). bytes_eq subject x.subject && bytes_eq spki s) cover.same.spki ∙ e in
+          absurd (nowhere place_of.0 cover.first (at_contained order cover.first place_of)
+          (ties cover.first cover.anchor cover.there same))
 
 -- ---- the first of some SPKIs
 

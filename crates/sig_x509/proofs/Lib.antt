@@ -15,7 +15,9 @@ pub mod Elements
 mod FirstAskedAnchors
 mod IndexLaws
 mod KeyAnswers
+mod KeyCopies
 mod KeyOrders
+mod NamedAnchors
 mod FirstIntermediates
 mod PathClauses
 pub mod PathConditions
@@ -25,4 +27,5 @@ mod RootedLaws
 mod RowLaws
 mod RowSteps
 mod SeenCandidates
+mod SignerLists
 mod Walks

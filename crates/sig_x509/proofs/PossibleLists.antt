@@ -1,26 +1,23 @@
 -- The lists of those who may have signed, one by one.
 use Rattle.std.proofs.Common.{◌≡◌, ℕ, ◌+◌, ◌<◌, ℤ, Bool, false, List, [], ◌∷◌, ◌++◌, map, take, get_or, length, Some, slice_get}
 use Rattle.std.proofs.Common.{sym, ap, ◌∙◌}
-use Rattle.std.proofs.lemmas.List.{map-append, append_assoc, take_more}
+use Rattle.std.proofs.lemmas.List.{map-append, take_more}
 use Rattle.std.proofs.lemmas.Option.{slice_get-get_or}
 use Rattle.sig_certificate.specs.Certificate.{Cert}
 use Rattle.sig_x509.proofs.PossibleRows.{down_column, up_column}
-use Rattle.sig_x509.specs.Possible.{SignerOne, below, column, count, down_at, further_signed, further_signer}
+use Rattle.sig_x509.specs.Possible.{below, column, count, down_at, further_signed, further_signer}
 use Rattle.sig_x509.specs.Possible.{next_of, node_of, seen_signed, seen_signer, up_at, up_of}
 use Rattle.sig_x509.specs.declared.possible.Signed.{Signed}
 use Rattle.sig_x509.specs.declared.possible.Signer.{Signer}
 
 -- one more after a list
-grown : {X Y Z : Type 0} (seen : X → Y) (f : Z → Y) (base : List Y) (zs : List Z) (k : ℕ) (z : Z) (items more : List X)
-    (x : X)
-    → map seen items ≡ base ++ map f (take k zs) → more ≡ items ++ x ∷ [] → seen x ≡ f z → k < length zs
-    → z ≡ get_or zs k z → map seen more ≡ base ++ map f (take (k + 1) zs)
-grown seen f base zs k z items more x so_far pushed is lt there =
+grown : {X Y Z : Type 0} (seen : X → Y) (f : Z → Y) (zs : List Z) (k : ℕ) (z : Z) (items more : List X) (x : X)
+    → map seen items ≡ map f (take k zs) → more ≡ items ++ x ∷ [] → seen x ≡ f z → k < length zs → z ≡ get_or zs k z
+    → map seen more ≡ map f (take (k + 1) zs)
+grown seen f zs k z items more x so_far pushed is lt there =
     ap (map seen) pushed ∙ map-append seen items (x ∷ []) ∙ ap (λ (ys : List _). ys ++ seen x ∷ []) so_far
-    ∙ append_assoc base (map f (take k zs)) (seen x ∷ [])
-    ∙ ap (λ (y : _). base ++ (map f (take k zs) ++ y ∷ [])) (is ∙ ap f there)
-    ∙ sym (ap (λ (ys : List _). base ++ ys)
-    (ap (map f) (take_more zs k z lt) ∙ map-append f (take k zs) (get_or zs k z ∷ [])))
+    ∙ ap (λ (y : _). map f (take k zs) ++ y ∷ []) (is ∙ ap f there)
+    ∙ sym (ap (map f) (take_more zs k z lt) ∙ map-append f (take k zs) (get_or zs k z ∷ []))
 
 there_at : (further : List Cert) (place : ℕ) (z : Cert) → place < length further → z ≡ get_or further place z
     → slice_get further place ≡ Some z
@@ -33,7 +30,7 @@ module _ (anchors further : List Cert) (c : Cert) (t s : ℤ) (same : s ≡ t) (
       → more ≡ items ++ x ∷ [] → map seen_signed items ≡ map (further_signed further c s) (take place further)
       → map seen_signed more ≡ map (further_signed further c s) (take (place + 1) further)
   signed_more are items more x at next pushed so_far =
-      grown seen_signed (further_signed further c s) [] further place z items more x so_far pushed
+      grown seen_signed (further_signed further c s) further place z items more x so_far pushed
       (ap (λ (d : Cert). record { certificate = d; next = x.next }) at
       ∙ ap (λ (row : List Bool). record { certificate = z; next = row })
       (next ∙ ap (λ (rs : List (List Bool)). column rs place) are
@@ -42,14 +39,12 @@ module _ (anchors further : List Cert) (c : Cert) (t s : ℤ) (same : s ≡ t) (
       lt is
 
   pub signer_more : rows ≡ map (up_at (map (node_of anchors further c t) further)) (below 7)
-      → (base : List SignerOne) (items more : List Signer) (x : Signer) → x.certificate.now ≡ z → x.trusted ≡ false
-      → x.up ≡ column rows place → more ≡ items ++ x ∷ []
-      → map seen_signer items ≡ base ++ map (further_signer anchors further s) (take place further)
-      → map seen_signer more ≡ base ++ map (further_signer anchors further s) (take (place + 1) further)
-  signer_more are base items more x at trusted up pushed so_far =
-      grown seen_signer (further_signer anchors further s) base further place z items more x so_far pushed
-      (ap (λ (d : Cert). record { certificate = d; trusted = x.trusted; up = x.up }) at
-      ∙ ap (λ (b : Bool). record { certificate = z; trusted = b; up = x.up }) trusted
+      → (items more : List Signer) (x : Signer) → x.certificate.now ≡ z → x.up ≡ column rows place
+      → more ≡ items ++ x ∷ [] → map seen_signer items ≡ map (further_signer anchors further s) (take place further)
+      → map seen_signer more ≡ map (further_signer anchors further s) (take (place + 1) further)
+  signer_more are items more x at up pushed so_far =
+      grown seen_signer (further_signer anchors further s) further place z items more x so_far pushed
+      (ap (λ (d : Cert). record { certificate = d; trusted = false; up = x.up }) at
       ∙ ap (λ (row : List Bool). record { certificate = z; trusted = false; up = row })
       (up ∙ ap (λ (rs : List (List Bool)). column rs place) are
       ∙ up_column anchors further c t place z (there_at further place z lt is)

@@ -1,8 +1,8 @@
 -- *Key order*: the trust anchors that a checker is asked about, in the order of SPKI and subject, and the first that has a
 -- subject and one of some keys.
-use Rattle.std.specs.Prelude.{◌≡◌, ◌<◌, ◌≤◌, ℕ, List, Bool, ◌&&◌, Option, Some, None, length, slice_get, nat_le}
-use Rattle.std.specs.Prelude.{IsPermutation, if◌then◌else◌}
-use Rattle.std.specs.List.{list_any}
+use Rattle.std.specs.Prelude.{◌≡◌, ◌<◌, ◌≤◌, ℕ, List, [], Bool, ◌&&◌, Option, Some, None, length, map, slice_get, nat_le}
+use Rattle.std.specs.Prelude.{IsPermutation, slice_range, if◌then◌else◌}
+use Rattle.std.specs.List.{AllByRecursion, list_any}
 use Rattle.std.specs.Option.{option_cmp, option_map}
 use Rattle.std.specs.Ordering.{nat_cmp, is_lt, on, then_cmp}
 use Rattle.std.specs.Cmp.Lexicographic.{slice_cmp}
@@ -12,6 +12,8 @@ use Rattle.std.specs.declared.cmp.Ordering.{Ordering}
 use Rattle.std.specs.declared.cmp.Ordering.TheVariants.{Less, Greater}
 use Rattle.sig_certificate.specs.Certificate.{Cert}
 use Rattle.sig_x509.specs.AskedAnchors.{AreAsked}
+use Rattle.sig_x509.specs.declared.key_order.KeyOrder.{KeyOrder}
+use Rattle.sig_x509.specs.declared.key_order.KeyPlace.{KeyPlace}
 
 -- ---- the order
 
@@ -41,6 +43,35 @@ pub record IsKeyOrder (anchors : List Cert) (order : List ℕ) : Type 0 where
   pub are_asked : AreAsked anchors asked
   pub moved : IsPermutation asked order
   pub ascends : Ascends anchors order
+
+-- ---- copies of the SPKIs
+
+-- the subject and the SPKI of a trust anchor, empty ones if there is none
+abbrev pub subject_in : Option Cert → List ℕ
+subject_in None = []
+subject_in (Some x) = x.subject
+
+abbrev pub spki_in : Option Cert → List ℕ
+spki_in None = []
+spki_in (Some x) = x.spki
+
+-- The buffer has at the place a copy of the SPKI of the trust anchor at its index.
+pub record IsCopy (anchors : List Cert) (buffer : List ℕ) (place : KeyPlace) : Type 0 where
+  pub ordered : place.start ≤ place.end
+  pub within : place.end ≤ length buffer
+  pub same : slice_range buffer place.start place.end ≡ spki_in (slice_get anchors place.index)
+
+abbrev pub AreCopies : List Cert → List ℕ → List KeyPlace → Type 0
+AreCopies anchors buffer places = AllByRecursion (IsCopy anchors buffer) places
+
+-- the indices of its places
+abbrev pub indices_of : KeyOrder → List ℕ
+indices_of keys = map (λ place. place.index) keys.places.items
+
+-- the indices that are asked, in that order, with copies of the SPKIs
+pub record HoldsKeys (anchors : List Cert) (keys : KeyOrder) : Type 0 where
+  pub order : IsKeyOrder anchors (indices_of keys)
+  pub copies : AreCopies anchors keys.buffer.items keys.places.items
 
 -- ---- a search
 

@@ -3,6 +3,7 @@ pub mod Candidates
 pub mod Issuance
 pub mod Issued
 pub mod KeyOrder
+pub mod NamedAnchors
 pub mod Path
 pub mod PathPlaces
 pub mod PathSearch

@@ -2,13 +2,14 @@
 -- place in a path and the certificate.
 use Rattle.std.specs.Prelude.{◌≡◌, ◌⊎◌, ℕ, zero, suc, ◌-◌, ℤ, List, [], ◌∷◌, ◌++◌, length, map, get_or, Bool, true, false}
 use Rattle.std.specs.Prelude.{◌&&◌, ◌||◌, ◌↔◌, Contains}
-use Rattle.std.specs.List.{list_any}
+use Rattle.std.specs.List.{filter, list_any}
 use Rattle.sig_certificate.specs.Certificate.{Cert}
 use Rattle.sig_certificate.specs.Profile.{constraints}
 use Rattle.sig_x509.specs.Issuance.{is_issued, is_signed_by, signs_code_at}
 use Rattle.sig_x509.specs.Path.{IsPath, every_signature}
 use Rattle.sig_x509.specs.PathSearch.{allows, can_stand, is_rooted, leads, may_issue, most_between}
 use Rattle.sig_x509.specs.Pool.{Pool, pool_over}
+use Rattle.sig_x509.specs.declared.possible.PossibleSigners.{PossibleSigners}
 use Rattle.sig_x509.specs.declared.possible.Signed.{Signed}
 use Rattle.sig_x509.specs.declared.possible.Signer.{Signer}
 use Rattle.sig_x509.specs.declared.reach.Node.{Node}
@@ -101,12 +102,39 @@ meets_at next trusted up others = bit next others && (trusted || bit up (6 - oth
 abbrev pub may_sign : SignedOne → SignerOne → Bool
 may_sign y x = is_named y.certificate x.certificate && any_below count (meets_at y.next x.trusted x.up)
 
--- what was borrowed
+-- ---- those under whose keys
+
+-- a certificate, and those under whose keys its signature may be
+pub record SignedUnder : Type 0 where
+  pub certificate : Cert
+  pub signers : List Cert
+
+-- of these signers
+abbrev pub signed_under : List SignerOne → SignedOne → SignedUnder
+signed_under xs y = record {
+  certificate = y.certificate;
+  signers = map (λ x. x.certificate) (filter (may_sign y) xs);
+}
+
+-- of the trust anchors in order, and then the intermediates
+abbrev pub under_all : List Cert → List Cert → ℤ → SignedOne → SignedUnder
+under_all anchors further t y = signed_under (all_signers anchors further t) y
+
+-- ---- what was borrowed
+
 abbrev pub seen_signed : Signed → SignedOne
 seen_signed y = record { certificate = y.certificate.now; next = y.next }
 
+-- an intermediate
 abbrev pub seen_signer : Signer → SignerOne
-seen_signer x = record { certificate = x.certificate.now; trusted = x.trusted; up = x.up }
+seen_signer x = record { certificate = x.certificate.now; trusted = false; up = x.up }
+
+abbrev pub seen_under : PossibleSigners → SignedUnder
+seen_under p = record { certificate = p.certificate.now; signers = map (λ x. x.now) p.signers.items }
+
+-- the trust anchors, and then these intermediates
+abbrev pub signers_with : List Cert → List Signer → List SignerOne
+signers_with anchors xs = map anchor_signer anchors ++ map seen_signer xs
 
 -- ---- the tables, by what is known of each intermediate
 

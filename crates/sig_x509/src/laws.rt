@@ -60,8 +60,8 @@ pub fn anchor_laws()
         → HasNoPath accepts pool c t ↔ IsIssuedByNone accepts c t pool.anchors }
 {}
 
-/// `may_sign` says of the sides that `possible_paths` lists whether a path, which would lead from the leaf to a trust anchor
-/// if every signature were genuine, has the signature of the one under the key of the other.
+/// `possible_paths` lists those of whom `may_sign` holds, and it holds if and only if a path, which would lead from the leaf
+/// to a trust anchor if every signature were genuine, has the signature of the one under the key of the other.
 pub fn signatures_of_paths()
     ensures { SignaturesAreOfPaths }
 {}

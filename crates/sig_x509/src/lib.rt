@@ -12,6 +12,7 @@ mod by_key;
 mod candidates;
 mod issuance;
 mod issuer;
+mod key_order;
 pub mod laws;
 mod links;
 mod pool;
@@ -20,11 +21,12 @@ mod reach;
 mod search;
 mod subjects;
 mod table;
+mod trust_anchors;
 pub mod uncounted;
 
 pub use issuer::Issuer;
 pub use pool::CertificatePool;
-pub use possible::{PossiblePaths, Signed, Signer, may_sign, possible_paths};
+pub use possible::{PossiblePaths, PossibleSigners, possible_paths};
 pub use sig_certificate::{
     BasicConstraints, Certificate, CertificateValidationError, ExtensionErrorKind, ExtensionRef,
     KeyUsage, Lookup, NotCAErrorKind, NotLeafErrorKind, PartName, X509ReadError, der_to_pem, is_ca,
@@ -41,3 +43,4 @@ pub use sig_timestamp::{
     CertificateEmbeddedSCT, CertificateErrorKind, DigitallySigned, Key, Keyring, KeyringError,
     SCTError, precert_tbs_der, verify_sct,
 };
+pub use trust_anchors::TrustAnchors;

@@ -13,9 +13,9 @@ ghost use Rattle.sig_x509.specs.Pool.{with_further};
 ghost use Rattle.sig_x509.specs.declared.issuer.Issuer.{Issuer};
 
 use crate::asked::asked_of;
-use crate::by_key::key_order_of;
 use crate::issuance::is_unconstrained;
 use crate::issuer::Issuer;
+use crate::key_order::KeyOrder;
 use sig_base::{Entries, OutOfMemory, OwnedList, PoolError, SignatureChecker, Steps};
 use sig_certificate::{Certificate, X509ReadError};
 use std::alloc::Global;
@@ -27,13 +27,13 @@ const MOST_INTERMEDIATES: usize = 1024;
 
 /// Trust anchors, in order: certificates that are trusted by themselves, and have no name constraints; and the
 /// intermediates that may lead to them, in order, which are not trusted. Contracts see both lists; an intermediate whose
-/// bytes are not a certificate has its index, and is absent. Beside them are the indices of the trust anchors that a
-/// checker is asked about, in order and in that of their subjects and keys.
+/// bytes are not a certificate has its index, and is absent. Beside them are the trust anchors that a checker is asked
+/// about: their indices in order, and in that of their keys and subjects with copies of the keys.
 #[derive(Drop)]
 pub struct CertificatePool {
     pub(crate) anchors: OwnedList<Certificate>,
     pub(crate) asked: Vec<usize>,
-    pub(crate) by_key: Vec<usize>,
+    pub(crate) by_key: KeyOrder,
     pub(crate) intermediates: OwnedList<Option<Certificate>>,
 }
 
@@ -45,9 +45,9 @@ impl Model for CertificatePool {
     ghost view = { λ p. record { anchors = p.anchors; intermediates = p.intermediates } };
 
     ghost use Rattle.sig_x509.specs.AskedAnchors.{AreFewAsked};
-    ghost use Rattle.sig_x509.specs.KeyOrder.{IsKeyOrder};
+    ghost use Rattle.sig_x509.specs.KeyOrder.{HoldsKeys};
 
-    ghost invariant = { λ p. AreFewAsked p.anchors p.asked.items × IsKeyOrder p.anchors p.by_key.items };
+    ghost invariant = { λ p. AreFewAsked p.anchors p.asked.items × HoldsKeys p.anchors p.by_key };
 }
 
 impl CertificatePool {
@@ -101,7 +101,7 @@ impl CertificatePool {
             Err(error) => Err(error),
             Ok(anchors) => {
                 let asked = asked_of(alloc, anchors.as_slice())?;
-                let by_key = key_order_of(alloc, anchors.as_slice(), &asked)?;
+                let by_key = KeyOrder::new(alloc, anchors.as_slice(), &asked)?;
                 let intermediates = read_intermediates(alloc, untrusted_intermediates)?;
                 Ok(CertificatePool {
                     anchors,
@@ -252,6 +252,13 @@ impl CertificatePool {
             (path_issuer (C.cert_accepts checker.now) self.now c verification_time) }
     {
         self.check_der(alloc, der, verification_time, checker, steps)
+    }
+
+    /// Returns the trust anchors, in order.
+    pub fn anchors(&self) -> &[Certificate]
+        ensures { result.now ≡ self.now.anchors }
+    {
+        self.anchors.as_slice()
     }
 
     /// Returns the SubjectPublicKeyInfo (DER) of this trust anchor or intermediate of the pool. `None` if and only if

@@ -11,6 +11,7 @@ ghost use Rattle.sig_x509.specs.Possible.{node_reached, node_stands, up_at};
 use crate::issuance::{may_issue, signs_code_at};
 use crate::links::most_between;
 use crate::table::allows;
+use crate::trust_anchors::TrustAnchors;
 use sig_base::{OutOfMemory, OwnedList};
 use sig_certificate::Certificate;
 use std::alloc::Global;
@@ -32,7 +33,7 @@ pub(crate) struct Node {
 pub(crate) fn nodes_of(
     alloc: Global,
     leaf: &Certificate,
-    anchors: &[Certificate],
+    anchors: &TrustAnchors,
     further: &[Certificate],
     time: i64,
 ) -> Result<OwnedList<Node>, OutOfMemory>
@@ -50,7 +51,7 @@ pub(crate) fn nodes_of(
 fn node_of(
     alloc: Global,
     leaf: &Certificate,
-    anchors: &[Certificate],
+    anchors: &TrustAnchors,
     further: &[Certificate],
     time: i64,
     certificate: &Certificate,
@@ -107,15 +108,11 @@ fn signed_by(
 }
 
 /// Whether a trust anchor has the name of the issuer.
-fn is_rooted(certificate: &Certificate, anchors: &[Certificate]) -> bool
+#[tactic(auto, using(crate::proofs::SignerLists::any_named))]
+fn is_rooted(certificate: &Certificate, anchors: &TrustAnchors) -> bool
     ensures { result ≡ list_any (is_named certificate.now) anchors.now }
 {
-    'anchors: for anchor in anchors {
-        if is_named(certificate, anchor) {
-            return true;
-        }
-    }
-    false
+    anchors.has_named(certificate.issuer())
 }
 
 /// For each number of places left which intermediates lead to a trust anchor. Fails only if out of memory.

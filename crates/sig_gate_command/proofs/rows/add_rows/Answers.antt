@@ -1,5 +1,5 @@
 -- The list has the rows so far, and in the end all of them, or has no room for the next.
-use Rattle.std.proofs.Common.{◌≡◌, ◌<◌, ◌≤◌, ◌∙◌, Bool, List, ap, arith, length, subst, true, false}
+use Rattle.std.proofs.Common.{◌<◌, ◌≤◌, ◌∙◌, arith, length, subst, true}
 use Rattle.sig_gate_command.proofs.Listings.{left-enough, left-more, put-room, rows-more, rows-past, rows-whole}
 use Rattle.sig_gate_command.specs.RowList.{IsPut}
 use Rattle.sig_gate_command.proofs.rows.add_rows.Goals as goal

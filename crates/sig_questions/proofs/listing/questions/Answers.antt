@@ -1,33 +1,32 @@
+use Rattle.std.proofs.Common.{Ok, Err}
 use Rattle.std.proofs.Math.Facts.{to_z-of_z}
-use Rattle.sig_verify.proofs.OfflineBytes.{inputs}
-use Rattle.sig_verify.specs.Links.{Inputs}
-use Rattle.sig_questions.proofs.Calls.{at_time, told_asked, told_few, told_order, told_places, told_suffice}
-use Rattle.sig_questions.specs.Listed.{IsAnswered}
+use Rattle.sig_questions.proofs.AskedRoots.{asked_there, root_refused}
+use Rattle.sig_questions.specs.AskedRoot.{IsAskedRootOf}
 use Rattle.sig_questions.proofs.listing.questions.Goals as goal
 
-abbrev its : goal.After-list_text → Inputs
-its c = inputs c.args.trusted_root.now c.args.now c.args.digest.now c.args.bundle.now
+there : (c : goal.After-drop) → IsAskedRootOf c.args.trusted_root.now c.args.now c.in-Ok.root
+there c =
+    asked_there c.args.trusted_root.now c.args.now _ (Ok c.in-Ok.root) (to_z-of_z c.ranges.now) c.in-Ok.ensures
 
-answered : (c : goal.After-list_text) → IsAnswered (its c) c.args.most c.list_text.result
-answered c =
-    at_time c.args.trusted_root.now c.args.now _ c.args.digest.now c.args.bundle.now c.args.most c.list_text.result
-    (to_z-of_z c.ranges.now) c.list_text.ensures
+pub returns-in-Ok-clause-asked : goal.returns-in-Ok-clause-asked
+returns-in-Ok-clause-asked c = c.questions-listed.ensures.asked c.args.trusted_root.now c.args.now (there c)
 
-pub returns-clause-asked : goal.returns-clause-asked
-returns-clause-asked c = told_asked (its c) c.args.most c.list_text.result (answered c)
+pub returns-in-Ok-clause-suffice : goal.returns-in-Ok-clause-suffice
+returns-in-Ok-clause-suffice c = c.questions-listed.ensures.suffice c.args.trusted_root.now c.args.now (there c)
 
-pub returns-clause-suffice : goal.returns-clause-suffice
-returns-clause-suffice c =
-    told_suffice (its c) c.args.most c.list_text.result (answered c) c.questions_suffice.ensures
+pub returns-in-Ok-clause-order : goal.returns-in-Ok-clause-order
+returns-in-Ok-clause-order c = c.questions-listed.ensures.order c.args.trusted_root.now c.args.now (there c)
 
-pub returns-clause-order : goal.returns-clause-order
-returns-clause-order c = told_order (its c) c.args.most c.list_text.result (answered c)
+pub returns-in-Ok-clause-places : goal.returns-in-Ok-clause-places
+returns-in-Ok-clause-places c = c.questions-listed.ensures.places c.args.trusted_root.now c.args.now (there c)
 
-pub returns-clause-places : goal.returns-clause-places
-returns-clause-places c = told_places (its c) c.args.most c.list_text.result (answered c)
+pub returns-in-Ok-clause-few : goal.returns-in-Ok-clause-few
+returns-in-Ok-clause-few c = c.questions-listed.ensures.few c.args.trusted_root.now c.args.now (there c)
 
-pub returns-clause-few : goal.returns-clause-few
-returns-clause-few c = told_few (its c) c.args.most c.list_text.result (answered c)
+pub returns-in-Ok-clause-decided : goal.returns-in-Ok-clause-decided
+returns-in-Ok-clause-decided c = c.questions-listed.ensures.decided c.args.trusted_root.now c.args.now (there c)
 
-pub returns-clause-decided : goal.returns-clause-decided
-returns-clause-decided c = (answered c).decided
+pub returns-in-Err-clause-decided : goal.returns-in-Err-clause-decided
+returns-in-Err-clause-decided c =
+    root_refused c.args.trusted_root.now c.args.bundle.now c.args.now c.args.digest.now c.args.most c.in-Err.error
+    (asked_there c.args.trusted_root.now c.args.now _ (Err c.in-Err.error) (to_z-of_z c.ranges.now) c.in-Err.ensures)

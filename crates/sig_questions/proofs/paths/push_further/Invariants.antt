@@ -5,4 +5,4 @@ use Rattle.sig_questions.proofs.paths.push_further.Given as goal
 
 -- the rows so far are written
 abbrev pub invariant-further : goal.invariant-further
-invariant-further l = AddsRows l.fn.rows (flat_map (rows_of_signed l.signers) (take l.signed-index l.further)) (Ok tt) l.rows
+invariant-further l = AddsRows l.fn.rows (flat_map rows_of_signed (take l.signed-index l.further)) (Ok tt) l.rows

@@ -1,23 +1,33 @@
--- The search of the part finds the first trust anchor that has the subject and the SPKI, if there is one.
-use Rattle.std.proofs.Common.{rules}
-use Rattle.std.proofs.lemmas.Fn.{always_returns_same}
-use Rattle.sig_x509.proofs.KeyOrders.{found_in, none_in, sought}
+-- Each comparison leaves a part of the places, until the signer is found or no place is left.
+use Rattle.std.proofs.Common.{ℕ, Some, sym, ap, ◌∙◌, arith}
+use Rattle.sig_x509.specs.KeyOrder.{indices_of}
+use Rattle.sig_x509.proofs.KeyOrders.{found_first, none_left, part_after, part_before}
 use Rattle.sig_x509.proofs.by_key.first_of_key.Goals as goal
+use Rattle.sig_x509.proofs.by_key.first_of_key.Goals.{in-Less, in-Greater}
 
-pub returns-in-Ok : goal.returns-in-Ok
-returns-in-Ok c =
-    found_in c.args.anchors.now c.args.order.now c.requires c.args.subject.now c.args.spki.now
-    c.part_of-start.result.0 c.part_of-start.result.1 c.part_of-start.ensures c.in-Ok.place c.in-Ok.ensures.bound
-    (c.in-Ok.ensures.position
-    (sought c.args.anchors.now c.args.order.now c.requires c.args.subject.now
-    c.args.spki.now)
-    (always_returns_same _ _ _ (λ a r f' k. search rules)) 0)
+pub places-preserved : goal.places-preserved
+places-preserved c = elim c.match-compare.branch [
+  | in-Less w ↦
+      rw (w.low-is, w.high-is)
+      (part_after c.args.anchors.now (indices_of c.args.order.now) c.requires.order c.args.subject.now
+      c.args.spki.now c.places.low c.places.high c.place_in-place.result c.places.invariant
+      c.place_in-place.ensures.from c.place_in-place.ensures.before (sym c.compare.ensures ∙ w.in-Less.is))
+  | in-Greater w ↦
+      rw (w.low-is, w.high-is)
+      (part_before c.args.anchors.now (indices_of c.args.order.now) c.requires.order c.args.subject.now
+      c.args.spki.now c.places.low c.places.high c.place_in-place.result c.places.invariant
+      c.place_in-place.ensures.from c.place_in-place.ensures.before (sym c.compare.ensures ∙ w.in-Greater.is))
+]
 
-pub returns-in-Err : goal.returns-in-Err
-returns-in-Err c =
-    none_in c.args.anchors.now c.args.order.now c.requires c.args.subject.now c.args.spki.now
-    c.part_of-start.result.0 c.part_of-start.result.1 c.part_of-start.ensures c.in-Err.place
-    (c.in-Err.ensures.position
-    (sought c.args.anchors.now c.args.order.now c.requires c.args.subject.now
-    c.args.spki.now)
-    (always_returns_same _ _ _ (λ a r f' k. search rules)))
+pub returns-in-Equal : goal.returns-in-Equal
+returns-in-Equal c =
+    ap (λ (index : ℕ). Some index) c.index_at.ensures
+    ∙ found_first c.args.anchors.now (indices_of c.args.order.now) c.requires.order c.args.subject.now
+    c.args.spki.now c.place_in-place.result
+    (omega (arith, c.place_in-place.ensures.before, c.places.invariant.within))
+    (sym c.compare.ensures ∙ c.in-Equal.is)
+
+pub returns : goal.returns
+returns c =
+    none_left c.args.anchors.now (indices_of c.args.order.now) c.requires.order c.args.subject.now c.args.spki.now
+    c.places.low c.places.high c.places.invariant c.places-test.false

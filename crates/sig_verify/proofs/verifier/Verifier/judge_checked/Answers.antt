@@ -5,14 +5,14 @@ use Rattle.sig_verify.proofs.VerdictSteps.{sct_failed, signature_failed, subject
 use Rattle.sig_verify.specs.Verdict.{checker_of, policy_of}
 use Rattle.sig_verify.proofs.verifier.Verifier.judge_checked.Goals as goal
 
-pub returns-in_err-issuer_spki : goal.returns-in_err-issuer_spki
-returns-in_err-issuer_spki g c =
-    let is : c.from_residual.result ≡ Err c.in_err-issuer_spki.field-0.0 =
+pub returns-in_err-issuer_key_hash : goal.returns-in_err-issuer_key_hash
+returns-in_err-issuer_key_hash g c =
+    let is : c.from_residual.result ≡ Err c.in_err-issuer_key_hash.field-0.0 =
     search (rules, c.from_residual) in
     rw is (issuer_failed (checker_of g.C.SignatureChecker c.args.inputs.now.checker.now) c.args.self.now
     (policy_of g.P.VerificationPolicy c.args.inputs.now.policy.now) c.args.inputs.now.digest.now c.args.offline
     c.args.bundle.now
-    c.in_err-issuer_spki.field-0.0 c.in_err-issuer_spki.ensures)
+    c.in_err-issuer_key_hash.field-0.0 c.in_err-issuer_key_hash.ensures)
 
 pub returns-in_err-check_sct : goal.returns-in_err-check_sct
 returns-in_err-check_sct g c =
@@ -21,7 +21,7 @@ returns-in_err-check_sct g c =
     rw is (sct_failed (checker_of g.C.SignatureChecker c.args.inputs.now.checker.now) c.args.self.now
     (policy_of g.P.VerificationPolicy c.args.inputs.now.policy.now) c.args.inputs.now.digest.now c.args.offline
     c.args.bundle.now
-    c.in_ok-issuer_spki.issuer_spki.now c.in_ok-issuer_spki.ensures
+    c.in_ok-issuer_key_hash.issuer_key_hash c.in_ok-issuer_key_hash.ensures
     c.in_err-check_sct.field-0.0 c.in_err-check_sct.ensures)
 
 pub returns-in_err-check_policy : goal.returns-in_err-check_policy
@@ -31,7 +31,7 @@ returns-in_err-check_policy g c =
     rw is (policy_failed (checker_of g.C.SignatureChecker c.args.inputs.now.checker.now) c.args.self.now
     (policy_of g.P.VerificationPolicy c.args.inputs.now.policy.now) c.args.inputs.now.digest.now c.args.offline
     c.args.bundle.now
-    c.in_ok-issuer_spki.issuer_spki.now c.in_ok-issuer_spki.ensures
+    c.in_ok-issuer_key_hash.issuer_key_hash c.in_ok-issuer_key_hash.ensures
     c.in_ok-check_sct.ensures
     c.in_err-check_policy.field-0.0 c.in_err-check_policy.ensures)
 
@@ -42,7 +42,7 @@ returns-in_err-key g c =
     rw is (key_failed (checker_of g.C.SignatureChecker c.args.inputs.now.checker.now) c.args.self.now
     (policy_of g.P.VerificationPolicy c.args.inputs.now.policy.now) c.args.inputs.now.digest.now c.args.offline
     c.args.bundle.now
-    c.in_ok-issuer_spki.issuer_spki.now c.in_ok-issuer_spki.ensures
+    c.in_ok-issuer_key_hash.issuer_key_hash c.in_ok-issuer_key_hash.ensures
     c.in_ok-check_sct.ensures
     c.in_ok-check_policy.ensures
     c.in_err-key.field-0.0 c.in_err-key.ensures)
@@ -54,7 +54,7 @@ returns-in_err-check_signature g c =
     rw is (signature_failed (checker_of g.C.SignatureChecker c.args.inputs.now.checker.now) c.args.self.now
     (policy_of g.P.VerificationPolicy c.args.inputs.now.policy.now) c.args.inputs.now.digest.now c.args.offline
     c.args.bundle.now
-    c.in_ok-issuer_spki.issuer_spki.now c.in_ok-issuer_spki.ensures
+    c.in_ok-issuer_key_hash.issuer_key_hash c.in_ok-issuer_key_hash.ensures
     c.in_ok-check_sct.ensures
     c.in_ok-check_policy.ensures
     (key_parts c.in_ok-key.key) c.in_ok-key.ensures
@@ -67,7 +67,7 @@ returns-in_err-check_subject g c =
     rw is (subject_failed (checker_of g.C.SignatureChecker c.args.inputs.now.checker.now) c.args.self.now
     (policy_of g.P.VerificationPolicy c.args.inputs.now.policy.now) c.args.inputs.now.digest.now c.args.offline
     c.args.bundle.now
-    c.in_ok-issuer_spki.issuer_spki.now c.in_ok-issuer_spki.ensures
+    c.in_ok-issuer_key_hash.issuer_key_hash c.in_ok-issuer_key_hash.ensures
     c.in_ok-check_sct.ensures
     c.in_ok-check_policy.ensures
     (key_parts c.in_ok-key.key) c.in_ok-key.ensures
@@ -81,7 +81,7 @@ returns-in_err-check_body g c =
     rw is (body_failed (checker_of g.C.SignatureChecker c.args.inputs.now.checker.now) c.args.self.now
     (policy_of g.P.VerificationPolicy c.args.inputs.now.policy.now) c.args.inputs.now.digest.now c.args.offline
     c.args.bundle.now
-    c.in_ok-issuer_spki.issuer_spki.now c.in_ok-issuer_spki.ensures
+    c.in_ok-issuer_key_hash.issuer_key_hash c.in_ok-issuer_key_hash.ensures
     c.in_ok-check_sct.ensures
     c.in_ok-check_policy.ensures
     (key_parts c.in_ok-key.key) c.in_ok-key.ensures
@@ -94,7 +94,7 @@ returns g c =
     all_passed (checker_of g.C.SignatureChecker c.args.inputs.now.checker.now) c.args.self.now
     (policy_of g.P.VerificationPolicy c.args.inputs.now.policy.now) c.args.inputs.now.digest.now c.args.offline
     c.args.bundle.now
-    c.in_ok-issuer_spki.issuer_spki.now c.in_ok-issuer_spki.ensures
+    c.in_ok-issuer_key_hash.issuer_key_hash c.in_ok-issuer_key_hash.ensures
     c.in_ok-check_sct.ensures
     c.in_ok-check_policy.ensures
     (key_parts c.in_ok-key.key) c.in_ok-key.ensures

@@ -15,6 +15,6 @@ returns-in-Some-clause-found g c =
 
 pub returns-in-None-clause-found : goal.returns-in-None-clause-found
 returns-in-None-clause-found g c =
-    rw (← c.self.view_is) (c.first_signer_of.ensures.found ∙ rw (c.as_slice-anchors.ensures, c.deref-in-None.ensures.value)
+    rw (← c.self.view_is) (c.first_signer_of.ensures.found ∙ rw (c.as_slice-anchors.ensures, c.deref.ensures.value)
     (first_asked (g.C.SignatureChecker.cert_accepts c.args.checker.now) c.args.certificate.now c.self.inside.anchors
     c.self.inside.asked.items c.self.invariant.0.0))

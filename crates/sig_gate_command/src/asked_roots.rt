@@ -1,0 +1,66 @@
+//! `AskedRoots`: the trusted roots that artifacts name, each read once for the questions of their bundles.
+ghost use Rattle.std.specs.Prelude.{◌≡◌, IfOk, IsSome, OnOk};
+ghost use Rattle.sig_base.specs.ByText.{text_lookup};
+ghost use Rattle.sig_gate_command.specs.AskedRoots.{AreAsked, IsRootNamed, IsRootOf};
+ghost use Rattle.sig_manifest.specs.Manifest.{manifest_view};
+
+use sig_base::{ByText, OutOfMemory};
+use sig_manifest::Manifest;
+use sig_questions::{AskedRoot, NoQuestions};
+use std::alloc::Global;
+
+/// What is held of a trusted root.
+#[derive(Drop)]
+pub(crate) enum NamedRoot {
+    /// What it gives at the manifest's time.
+    Asked(AskedRoot),
+    /// Its text is not a trusted root.
+    NotRoot,
+}
+
+/// What is held of trusted roots, by their names.
+pub(crate) type AskedRoots = ByText<NamedRoot>;
+
+/// Reads the trusted root of this name, if it is not held yet. Fails only if out of memory.
+pub(crate) fn hold_root(
+    alloc: Global,
+    held: &mut AskedRoots,
+    manifest: &Manifest,
+    name: &str,
+) -> Result<(), OutOfMemory>
+    requires named { IsSome (text_lookup name.now manifest.now.roots) }
+    requires held { AreAsked (manifest_view manifest.now) held.old }
+    ensures held { OnOk result (AreAsked (manifest_view manifest.entry.now) held.new) }
+    ensures there { OnOk result (IsSome (text_lookup name.now held.new)) }
+{
+    if held.get(name).is_some() {
+        return Ok(());
+    }
+    let root = read_named(alloc, manifest, name)?;
+    held.insert(name, root)?;
+    Ok(())
+}
+
+/// What is to be held of the trusted root of this name.
+fn read_named(alloc: Global, manifest: &Manifest, name: &str) -> Result<NamedRoot, OutOfMemory>
+    requires { IsSome (text_lookup name.now manifest.now.roots) }
+    ensures { IfOk result (IsRootNamed (manifest_view manifest.entry.now) name.now) }
+{
+    let Some(text) = manifest.roots.get(name) else {
+        unreachable!()
+    };
+    read_root(alloc, text.as_bytes(), manifest.now)
+}
+
+/// What is to be held of a trusted root of this text at a time.
+fn read_root(alloc: Global, text: &[u8], now: i64) -> Result<NamedRoot, OutOfMemory>
+    ensures { IfOk result (IsRootOf text.now now) }
+{
+    match AskedRoot::read(alloc, text, now) {
+        Ok(root) => Ok(NamedRoot::Asked(root)),
+        Err(NoQuestions::Link(_)) => Ok(NamedRoot::NotRoot),
+        Err(NoQuestions::OutOfMemory) => Err(OutOfMemory),
+        // It lists nothing.
+        Err(NoQuestions::TooLong) => unreachable!(),
+    }
+}
