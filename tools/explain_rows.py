@@ -11,11 +11,11 @@ from verify_cases import built, held, parts, root, unaccepted
 from verify_rows_content import about
 
 Row = collections.namedtuple("Row", "name text wanted")
-LONG = 4096
+LONG = 1024
 EMAIL, HOST, OBJECT_IDENTIFIER, UTF8, PRINTABLE, IA5, BMP = 0x81, 0x82, 0x06, 0x0C, 0x13, 0x16, 0x1E
-# Between the 4,096th byte and the next, and across them.
-EDGES = {"a" * LONG: ("a" * LONG, None), "a" * (LONG + 1): ("a" * LONG, "4097"), "a" * (LONG - 1) + "\u00e9": ("a" * (LONG - 1), "4097"),
-         "a" * (LONG - 3) + "\U0001f600b": ("a" * (LONG - 3), "4098"), "\u20ac" * 1366: ("\u20ac" * 1365, "4098")}
+# Between the 1,024th byte and the next, and across them.
+EDGES = {"a" * LONG: ("a" * LONG, None), "a" * (LONG + 1): ("a" * LONG, "1025"), "a" * (LONG - 1) + "\u00e9": ("a" * (LONG - 1), "1025"),
+         "a" * (LONG - 3) + "\U0001f600b": ("a" * (LONG - 3), "1026"), "\u20ac" * 342: ("\u20ac" * 341, "1026")}
 
 
 def row(name, wanted, *changes):
@@ -26,7 +26,7 @@ def cut(member, text, length):
     return {member: text, member + "Length": length}
 
 
-# Texts: whole up to 4,096 bytes, and then cut between two characters.
+# Texts: whole up to 1,024 bytes, and then cut between two characters.
 
 def texts():
     for place, (text, (shown, length)) in enumerate(EDGES.items()):
@@ -45,9 +45,9 @@ def texts():
         yield row("an origin at the limit, %d" % place, cut("note.origin", shown, length), parts(noted=note(bytes(32)).replace("fixture.log", text)))
     yield row("control characters, quotation marks and a backslash", {"mediaType": '\x00\x1f\x7f"\\/\b\f\n\r\t\u2028'},
               parts(media_type='\x00\x1f\x7f"\\/\b\f\n\r\t\u2028'))
-    for size, length in ((2048, None), (2049, "4098")):
-        yield row("a log id of %d bytes" % size, cut("logId", "00" * 2048, length), parts(log_id=bytes(size)), root("tlogs.0.logId.keyId", ""))
-        yield row("the id of a log of %d bytes" % size, {"ctlogs.0.logId": "00" * 2048, "ctlogs.0.logIdLength": length},
+    for size, length in ((512, None), (513, "1026")):
+        yield row("a log id of %d bytes" % size, cut("logId", "00" * 512, length), parts(log_id=bytes(size)), root("tlogs.0.logId.keyId", ""))
+        yield row("the id of a log of %d bytes" % size, {"ctlogs.0.logId": "00" * 512, "ctlogs.0.logIdLength": length},
                   root("ctlogs.0.logId.keyId", base64_of(bytes(size))), unaccepted(1))
 
 
@@ -113,7 +113,7 @@ def alternative_names():
     yield row("malformed names", {"certificate.names": []}, alternative(der(EMAIL, b"\xff")), ANY_NAME)
     yield row("more names than are shown", {"certificate.names.63": {"uri": "63"}, "certificate.names.64": None},
               alternative(*[der(URI, b"%d" % number) for number in range(66)]), ANY_NAME)
-    yield row("a long name", cut("certificate.names.0.uri", "a" * LONG, "4097"), alternative(der(URI, b"a" * (LONG + 1))), ANY_NAME)
+    yield row("a long name", cut("certificate.names.0.uri", "a" * LONG, "1025"), alternative(der(URI, b"a" * (LONG + 1))), ANY_NAME)
 
 
 GROUPS = [texts, issuers, alternative_names]

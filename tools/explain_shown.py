@@ -7,7 +7,7 @@ import hashlib
 
 import json_documents as documents
 
-MOST_SHOWN = 4096  # bytes of a text
+MOST_SHOWN = 1024  # bytes of a text
 
 
 def line(members):

@@ -206,7 +206,7 @@ MADE = {
     "document": lambda members: DOCUMENTS.get(members.get("link"), "the document"), "fault": fault, "logs": logs,
     "part": lambda members: PARTS.get(members.get("part")), "anchors": anchors, "accepted": accepted, "authorities": authorities,
     "workflow": workflow, "rulesHeld": rules_held, "total": total, "several": several,
-    "rules": lambda members: (rules_refused(members) or ["a rule does not hold that is not among the first 64"])[0],
+    "rules": lambda members: (rules_refused(members) or ["a rule does not hold that is not among the first 32"])[0],
     "set": lambda members: " and ".join(members["set"]) or "neither" if "set" in members else None,
     "subjectDigests": lambda members: "subjectDigests" in members and listed(
         members["subjectDigests"], members.get("subjectDigestCount")) or None,

@@ -44,7 +44,7 @@ rule_tree c rule = object_of (text_row (codes "rule") (rule_name rule) ∷ judge
 
 -- how many rules are shown at most
 abbrev pub most_rules : ℕ
-most_rules = 64
+most_rules = 32
 
 abbrev pub rules_of : RequestPolicy → List LeafPolicy
 rules_of (request.All rules) = rules

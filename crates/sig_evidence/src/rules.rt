@@ -22,7 +22,7 @@ use sig_shown::{first, with_count};
 use std::alloc::Global;
 
 /// How many rules of a policy are shown at most.
-pub const MOST_RULES: usize = 64;
+pub const MOST_RULES: usize = 32;
 
 /// The object with a policy as a member: `require`, whether `all` or `any` of its rules have to hold; `total`, how many
 /// there are; and `rules`, the first [`MOST_RULES`] of them in order. A rule has its name in a request, `rule`, and, if

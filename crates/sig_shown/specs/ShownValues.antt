@@ -12,7 +12,7 @@ use Rattle.sig_shown.specs.UtcText.{utc_text}
 
 -- how many bytes of a text are shown at most
 abbrev pub most_shown : ℕ
-most_shown = 4096
+most_shown = 1024
 
 -- the text, or as many of its first characters as have at most so many bytes
 unfoldable pub shown : List ℕ → List ℕ

@@ -9,7 +9,7 @@ use sig_json::Object;
 use std::alloc::Global;
 
 /// How many bytes of a text are shown at most.
-pub const MOST_SHOWN: usize = 4096;
+pub const MOST_SHOWN: usize = 1024;
 
 /// The object with a number as a member. Fails only if out of memory.
 #[tactic(auto, unfolding(crate::specs::ShownValues::count_tree))]
