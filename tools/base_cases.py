@@ -108,6 +108,12 @@ def tables():
         scheme = "0%00" if row[0] == "certificate" else row[1]
         case(f"accepts {row[0]} {scheme} {row[2]} {row[3]} {row[4]} {listed}", "ok " + ("true" if row in rows else "false"))
     case("accepts message ED25519 01 0a 05", "ok false")
+    note("has PART BYTES and rows: whether some row has these bytes as this part, before the rows are in the order of their parts and after")
+    for name, place in (("key", 2), ("message", 3), ("signature", 4)):
+        held = {row[place] for row in rows}
+        for sought in sorted(held | {"-", "00", "ff", "0a0a", "0505"}):
+            case(f"has {name} {sought} {listed}", "ok " + ("true true" if sought in held else "false false"))
+        case(f"has {name} 01", "ok false false")
 
 
 def maps():

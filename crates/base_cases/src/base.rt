@@ -1,6 +1,6 @@
-//! Calls of sig_base on bytes, texts, schemes and tables.
+//! Calls of sig_base on bytes, texts and schemes.
 
-use sig_base::{Bytes, Operation, OutOfMemory, RootHex, SigningScheme, Text, sha256};
+use sig_base::{Bytes, OutOfMemory, RootHex, SigningScheme, Text, sha256};
 use sig_cases::{Answer, Arguments};
 use std::alloc::Global;
 
@@ -87,32 +87,6 @@ fn bytes_of(alloc: Global, answer: &mut Answer, text: &Text) -> Bytes {
         Err(_) => {
             answer.out_of_memory();
             Bytes::from(Vec::new(alloc))
-        }
-    }
-}
-
-/// `accepts OPERATION SCHEME KEY MESSAGE SIGNATURE ROW ..`: whether the table of the rows accepts a row.
-pub(crate) fn accepts(arguments: &mut Arguments<'_>, answer: &mut Answer) {
-    let operation = operation(arguments);
-    let scheme = arguments.text();
-    let key = arguments.hex();
-    let message = arguments.hex();
-    let signature = arguments.hex();
-    let checker = arguments.checker();
-    answer.ok();
-    answer.value(&checker.accepts(operation, scheme.as_bytes(), &key, &message, &signature));
-}
-
-/// The next argument as an operation.
-fn operation(arguments: &mut Arguments<'_>) -> Operation {
-    match arguments.word() {
-        "message" => Operation::Message,
-        "prehash" => Operation::Prehash,
-        "point" => Operation::Point,
-        "certificate" => Operation::Certificate,
-        _ => {
-            arguments.refuse();
-            Operation::Point
         }
     }
 }

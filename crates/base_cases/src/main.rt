@@ -14,6 +14,7 @@ mod errors;
 mod keys;
 mod maps;
 mod merkle;
+mod tables;
 mod walks;
 
 use sig_cases::{Answer, Arguments, Cases, run};
@@ -29,7 +30,8 @@ impl Cases for BaseCases {
             "root_hex" => base::root_hex(arguments, answer),
             "scheme" => base::scheme(arguments, answer),
             "equal" => base::equal(arguments, answer),
-            "accepts" => base::accepts(arguments, answer),
+            "accepts" => tables::accepts(arguments, answer),
+            "has" => tables::has(arguments, answer),
             "errors" => errors::all(arguments, answer),
             _ => of_lists(call, arguments, answer),
         }

@@ -2,6 +2,7 @@ pub mod Schemes
 pub mod AcceptedRows
 pub mod Orderings
 pub mod RowOrders
+pub mod PartOrders
 pub mod CertKeys
 pub mod Texts
 pub mod AscendingKeys

@@ -4,6 +4,7 @@ pub mod ResultSteps
 pub mod Sha256
 pub mod Checker
 pub mod RowOrder
+pub mod PartOrder
 pub mod MemoryStream
 pub mod Scheme
 pub mod Stream

@@ -3,12 +3,14 @@
 ghost use Rattle.std.specs.Prelude.{◌≡◌, ◌↔◌, Bool, List, ℕ, [], ◌∷◌, ◌++◌, IfOk, IfSome, OnOk, OnErr};
 ghost use Rattle.std.specs.Prelude.{IsTrue, Contains};
 ghost use Rattle.sig_base.specs.Checker.{AreKeysOf};
+ghost use Rattle.sig_base.specs.PartOrder.{has_part};
 ghost use Rattle.sig_base.specs.declared.scheme.VerifyScheme.{VerifyScheme as scheme_type};
 
 use crate::bytes::Bytes;
 use crate::key_list::KeyList;
 use crate::memory::OutOfMemory;
 use crate::owned_list::OwnedList;
+use crate::part_order::{PartOrders, RowPart, some_row_has};
 use crate::row_order::{RowParts, group_of, order_of, order_to, put_in_order};
 use crate::scheme::VerifyScheme;
 use std::alloc::Global;
@@ -116,6 +118,8 @@ pub struct AcceptedRow {
 pub struct TableChecker {
     rows: OwnedList<AcceptedRow>,
     order: Vec<usize>,
+    /// What `has` is answered from, if it was asked for.
+    parts: Option<PartOrders>,
 }
 
 impl Model for TableChecker {
@@ -126,9 +130,11 @@ impl Model for TableChecker {
 
     ghost view = { λ t. t.rows };
 
+    ghost use Rattle.std.specs.Prelude.{IfSome};
+    ghost use Rattle.sig_base.specs.PartOrder.{AreOrders};
     ghost use Rattle.sig_base.specs.RowOrder.{IsOrderOf};
 
-    ghost invariant = { λ t. IsOrderOf t.rows t.order.items };
+    ghost invariant = { λ t. IsOrderOf t.rows t.order.items × IfSome t.parts (AreOrders t.rows) };
 }
 
 impl TableChecker {
@@ -141,6 +147,7 @@ impl TableChecker {
         TableChecker {
             rows: OwnedList::new(alloc),
             order: Vec::new(alloc),
+            parts: None,
         }
     }
 
@@ -152,7 +159,11 @@ impl TableChecker {
         ensures { IfOk result (λ table. table ≡ rows) }
     {
         let order = order_of(alloc, rows.as_slice())?;
-        Ok(TableChecker { rows, order })
+        Ok(TableChecker {
+            rows,
+            order,
+            parts: None,
+        })
     }
 
     /// The rows, in the order in which they were given.
@@ -160,6 +171,27 @@ impl TableChecker {
         ensures { result.now ≡ self.now }
     {
         self.rows.as_slice()
+    }
+
+    /// Sorts the rows by each of their parts too, so that [`has`](TableChecker::has) is a binary search until a row is added:
+    /// for a table that is asked many times. Fails only if out of memory.
+    pub fn order_parts(&mut self, alloc: Global) -> Result<(), OutOfMemory>
+        ensures { self.new ≡ self.old }
+    {
+        self.parts = Some(PartOrders::of(alloc, self.rows.as_slice())?);
+        Ok(())
+    }
+
+    /// Whether some row of the table has these bytes as this part, whatever else it has. It goes over all rows, unless they
+    /// were sorted by [`order_parts`](TableChecker::order_parts).
+    pub fn has(&self, part: RowPart, bytes: &[u8]) -> bool
+        ensures { result ≡ has_part part self.now bytes.now }
+    {
+        let rows = self.rows.as_slice();
+        match &self.parts {
+            Some(orders) => orders.has(rows, part, bytes),
+            None => some_row_has(rows, part, bytes),
+        }
     }
 
     /// Adds a row at the end. It sorts the table anew, so make a table of many rows by `from_rows`. Fails only if out of
@@ -170,6 +202,7 @@ impl TableChecker {
     {
         let index = self.rows.len();
         self.order.reserve(1)?;
+        self.parts = None;
         self.rows.push(row)?;
         self.order.push(index)?;
         put_in_order(self.rows.as_slice(), &mut self.order);

@@ -17,7 +17,7 @@ found c =
     c.args.signature.now in
     let order : IsOrderOf c.self.inside.rows c.as_slice.result.now =
     subst (λ (indices : List ℕ). IsOrderOf c.self.inside.rows indices)
-    (sym c.as_slice.ensures.value) c.self.invariant in
+    (sym c.as_slice.ensures.value) c.self.invariant.0 in
     let inside = finds_row c.self.inside.rows row c.as_slice.result.now c.binary_search_by-found.result order
     (c.binary_search_by-found.ensures.position (sought c.self.inside.rows row)
     (always_returns_same _ _ _ (λ a r f' k. search rules))) in

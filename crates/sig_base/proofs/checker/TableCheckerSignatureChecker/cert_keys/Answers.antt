@@ -13,7 +13,7 @@ returns c =
     let order : IsOrderOf rows c.as_slice.result.now =
     subst (λ (indices : List ℕ). IsOrderOf rows indices) (sym c.as_slice.ensures.value)
     (subst (λ (all : List AcceptedRow). IsOrderOf all c.self.inside.order.items) (sym c.as_slice-rows.ensures)
-    c.self.invariant) in
+    c.self.invariant.0) in
     let keys = keys_of_group rows c.as_slice.result.now c.group_of.result.now c.args.algorithm.now c.args.tbs.now
     c.args.signature.now [] order c.group_of.ensures in
     subst (λ (all : List AcceptedRow). AreKeysOf (λ spki. accepted all Certificate c.args.algorithm.now spki
