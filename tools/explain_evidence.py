@@ -11,7 +11,8 @@ from explain_name import name_text
 from explain_refusal import kept, names
 from explain_shown import digest, note, proof, sha256, shown, time
 
-MOST_ANCHORS, MOST_LOGS, MOST_RULES, MOST_DIGESTS, MOST_SIGNATURES, MOST_AUTHORITIES = 64, 256, 64, 256, 16, 256
+MOST_ANCHORS, MOST_LOGS, MOST_RULES, MOST_DIGESTS, MOST_SIGNATURES, MOST_AUTHORITIES = 64, 256, 32, 256, 16, 256
+MOST_KEY_BYTES = 65536
 RULES = {kind: named[0] for named, kind in links.RULES.items()}  # the name that a request has for a rule
 
 
@@ -104,7 +105,12 @@ def accepted(rows, scheme, under, message, signatures):
     """The scheme, the key and the message that were asked about, and what some accepted signature has of them and of the first signatures."""
     asked = ("key", 2, [under]), ("message", 3, [message]), ("signature", 4, signatures[:MOST_SIGNATURES])
     found = [name for name, place, wanted in asked if any(row[place] in wanted for row in rows)]
-    return {"scheme": scheme, "keySha256": sha256(under), "messageSha256": sha256(message), "accepted": found}
+    return {"scheme": scheme, **shown_key(under), "messageSha256": sha256(message), "accepted": found}
+
+
+def shown_key(spki):
+    """The SHA-256 of a key, or of a long one its length."""
+    return {"keySha256": sha256(spki)} if len(spki) <= MOST_KEY_BYTES else {"keyLength": str(len(spki))}
 
 
 def accepted_note(rows, scheme, under, checkpoint):

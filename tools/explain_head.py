@@ -14,7 +14,7 @@ from explain_shown import line, note, proof, sha256, tree
 # ---- a checkpoint
 
 def read_checkpoint(text):
-    """A checkpoint, and the object of the link `checkpoint` where the text is none."""
+    """A checkpoint, and the object of the link `checkpoint` where the text is not one."""
     try:
         return rekor.read_checkpoint(text), None
     except rekor.Fault as fault:

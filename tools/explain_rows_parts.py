@@ -1,4 +1,6 @@
 """More rows of explain_rows.py: the certificate, times, logs, digests, policies, and what accepted signatures have of one that was asked about."""
+import hashlib
+
 import fixture
 from explain_rows import row
 from fixture import DIGEST, FULCIO, ISSUER, OTHER_LOG_ID, SCT_LIST, WIDE_DIGEST, WORKFLOW, base64_of, der, extension, key, leaf, sct, sct_list, subject
@@ -96,11 +98,11 @@ def subjects():
 
 def policies():
     held_rule, failing = {"identity": WORKFLOW, "issuer": ISSUER}, {"ref": "x"}
-    yield row("more rules than are shown", {"cause": ["Policy", "AllOf"], "total": "70", "policy.total": "70", "policy.rules.63": {"rule": "identity"},
-                                            "policy.rules.62": {"rule": "ref", "cause": ["ExtensionNotFound"]}, "policy.rules.64": None},
-              parts(policy={"all": [failing] * 63 + [held_rule] + [failing] * 6}))
-    yield row("any of more rules than are shown", {"policy.require": "any", "policy.rules.0.cause": ["ExtensionNotFound"], "policy.total": "65"},
-              parts(policy={"any": [failing] * 64 + [held_rule]}))
+    yield row("more rules than are shown", {"cause": ["Policy", "AllOf"], "total": "70", "policy.total": "70", "policy.rules.31": {"rule": "identity"},
+                                            "policy.rules.30": {"rule": "ref", "cause": ["ExtensionNotFound"]}, "policy.rules.32": None},
+              parts(policy={"all": [failing] * 31 + [held_rule] + [failing] * 38}))
+    yield row("any of more rules than are shown", {"policy.require": "any", "policy.rules.0.cause": ["ExtensionNotFound"], "policy.total": "33"},
+              parts(policy={"any": [failing] * 32 + [held_rule]}))
     yield row("none of any", {"cause": ["Policy", "AnyOf"], "total": "2", "policy.require": "any", "policy.rules.1.actual": ISSUER},
               parts(policy={"any": [failing, {"issuer": ""}]}))
     kinds = [{name: "x"} for name in CLAIMS] + [{"issuer": "x"}, {"identity": "x", "issuer": ISSUER}]
@@ -133,6 +135,9 @@ def signatures():
             # The log's key is that of the promise and of the checkpoint, so that one of them has it in any case.
             found = [part for part in ALL if part in wanted or part == "key" and link != "signature"]
             yield asked("%s: accepted has %s" % (link, title), place, change, found)
+    for count, shown in ((65512, {"keySha256": hashlib.sha256(fixture.wide_key(65512)).hexdigest(), "keyLength": None}), (65513, {"keySha256": None, "keyLength": "65537"})):
+        yield row("the log's key has %d bytes" % (count + 24), {"link": "promise", **shown}, parts(log_key=fixture.wide_key(count), log_scheme="RSA_PKCS1_SHA256"),
+                  unaccepted(3), unaccepted(3))
     yield row("a digest of which no signature is", {"cause": ["Signature", "DigestAlgorithmUnsupported"]}, message(digest="sha512:" + WIDE_DIGEST))
     for count, found in ((16, ["key", "message", "signature"]), (17, ["key", "message"])):
         lines = "".join("\u2014 log %s\n\n" % base64_of(b"\x00\x00\x00\x04sig-%d" % number) for number in range(count - 1))

@@ -74,10 +74,10 @@ def key(byte):
     return der(SEQUENCE, der(SEQUENCE, *algorithm), der(BIT_STRING, b"\x00", point(byte)))
 
 
-def wide_key():
-    """A SubjectPublicKeyInfo of RSA of 294 bytes, RFC 3279 section 2.3.1; modulus and exponent are 270 bytes of 1."""
+def wide_key(count=270):
+    """A SubjectPublicKeyInfo of RSA, of 294 bytes if nothing is said, RFC 3279 section 2.3.1; modulus and exponent are so many bytes of 1."""
     algorithm = der(OBJECT_IDENTIFIER, oid("1.2.840.113549.1.1.1")), der(0x05)
-    return der(SEQUENCE, der(SEQUENCE, *algorithm), der(BIT_STRING, b"\x00", b"\x01" * 270))
+    return der(SEQUENCE, der(SEQUENCE, *algorithm), der(BIT_STRING, b"\x00", b"\x01" * count))
 
 
 def name(common_name):

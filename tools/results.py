@@ -121,7 +121,7 @@ CALLS = [
     ("Key::new", "x509 key", "sig_timestamp KeyringError", ["KeyMalformed", "AlgoUnsupported"]),
     ("Keyring::verify", "x509 keyring", "sig_timestamp KeyringError", KEYRING),
     ("CertificateEmbeddedSCT::new", "x509 embedded_sct_of_chain", "sig_timestamp SCTError", within("Parsing", ["IssuerMissing"] + SCT)),
-    ("CertificateEmbeddedSCT::new_with_verified_path", "x509 embedded_sct", "sig_timestamp SCTError", within("Parsing", SCT)),
+    ("CertificateEmbeddedSCT::new_with_verified_path, new_with_issuer_key_hash", "x509 embedded_sct", "sig_timestamp SCTError", within("Parsing", SCT)),
     ("verify_sct", "x509 verify_sct", "sig_timestamp SCTError", ["Serialization"] + within("Verification", KEYRING)),
     ("verify_single, LeafPolicy::verify", "x509 policy", "sig_policy PolicyError", ["ExtensionNotFound", "ExtensionCheckFailed@"]),
     ("Identity::verify", "x509 identity", "sig_policy PolicyError", ["ExtensionNotFound", "ExtensionCheckFailed@"]),

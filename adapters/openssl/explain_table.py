@@ -183,7 +183,7 @@ ENTRY = {
 WORDS = {**REQUEST, **DOCUMENT, **ROOT, **BUNDLE, **CERTIFICATE, **POLICY, **SIGNATURE, **ENTRY}
 
 # What follows the cause, by the link. Of alternatives the first counts whose members are all there.
-ASKED = ["{accepted}", "the scheme is {scheme}", "of the key, SHA-256 is {keySha256}",
+ASKED = ["{accepted}", "the scheme is {scheme}", ("of the key, SHA-256 is {keySha256}", "the key has {keyLength} bytes"),
          "of the message, SHA-256 is {messageSha256}"]
 TREES = ["the proof says index and tree: {proof}", "the checkpoint says: {note}"]
 DETAILS = {

@@ -1,44 +1,44 @@
 -- What the accepted signatures have of one that was asked about.
-use Rattle.std.specs.Prelude.{ℕ, List, [], ◌∷◌, ◌++◌, Bool, codes, take, Some, if◌then◌else◌}
+use Rattle.std.specs.Prelude.{ℕ, List, [], ◌∷◌, ◌++◌, Bool, codes, length, nat_le, take, Some, if◌then◌else◌}
 use Rattle.std.specs.List.{list_any}
-use Rattle.std.specs.Str.{bytes_eq}
+use Rattle.sig_base.specs.PartOrder.{has_part}
 use Rattle.sig_base.specs.Scheme.{name_of}
 use Rattle.sig_base.specs.declared.checker.AcceptedRow.{AcceptedRow}
+use Rattle.sig_base.specs.declared.part_order.RowPart.TheVariants.{Key, Message, Signature}
 use Rattle.sig_base.specs.declared.scheme.VerifyScheme.{VerifyScheme}
 use Rattle.sig_json.specs.Writing.{TreeMember}
 use Rattle.sig_rekor.specs.declared.checkpoint.CheckpointSignature.{CheckpointSignature}
-use Rattle.sig_shown.specs.ShownValues.{sha256_tree, text_row, texts_row}
+use Rattle.sig_shown.specs.ShownValues.{count_row, sha256_tree, text_row, texts_row}
 
-abbrev pub has_key : List AcceptedRow → List ℕ → Bool
-has_key rows key = list_any (λ row. bytes_eq row.key key) rows
+-- how many bytes a key has at most of which the SHA-256 is shown
+abbrev pub most_key_bytes : ℕ
+most_key_bytes = 65536
 
-abbrev pub has_message : List AcceptedRow → List ℕ → Bool
-has_message rows message = list_any (λ row. bytes_eq row.message message) rows
-
-abbrev pub has_signature : List AcceptedRow → List ℕ → Bool
-has_signature rows signature = list_any (λ row. bytes_eq row.signature signature) rows
+-- the SHA-256 of a key, or of a long one its length
+abbrev pub key_row : List ℕ → TreeMember
+key_row key =
+    if nat_le (length key) most_key_bytes then (codes "keySha256", Some (sha256_tree key))
+    else count_row (codes "keyLength") (length key)
 
 abbrev pub named_if : Bool → List ℕ → List (List ℕ)
 named_if b name = if b then name ∷ [] else []
 
 -- which of the three some row has
-abbrev pub found_names : List AcceptedRow → List ℕ → List ℕ → List ℕ → List (List ℕ)
-found_names rows key message signature =
-    named_if (has_key rows key) (codes "key")
-    ++ (named_if (has_message rows message) (codes "message")
-    ++ named_if (has_signature rows signature) (codes "signature"))
+abbrev pub found_names : Bool → Bool → Bool → List (List ℕ)
+found_names key message signature =
+    named_if key (codes "key") ++ (named_if message (codes "message") ++ named_if signature (codes "signature"))
 
-abbrev pub accepted_rows : List AcceptedRow → List ℕ → List ℕ → List ℕ → List TreeMember
-accepted_rows rows key message signature =
-    (codes "keySha256", Some (sha256_tree key))
+-- what was asked about, and which of it some row has
+abbrev pub asked_about : List AcceptedRow → VerifyScheme → List ℕ → List ℕ → Bool → List TreeMember
+asked_about rows scheme key message signed =
+    text_row (codes "scheme") (name_of scheme)
+    ∷ key_row key
     ∷ (codes "messageSha256", Some (sha256_tree message))
-    ∷ texts_row (codes "accepted") (found_names rows key message signature)
+    ∷ texts_row (codes "accepted") (found_names (has_part Key rows key) (has_part Message rows message) signed)
     ∷ []
 
--- the same, and the scheme under which it was asked
 abbrev pub asked_rows : List AcceptedRow → VerifyScheme → List ℕ → List ℕ → List ℕ → List TreeMember
-asked_rows rows scheme key message signature =
-    text_row (codes "scheme") (name_of scheme) ∷ accepted_rows rows key message signature
+asked_rows rows scheme key message signature = asked_about rows scheme key message (has_part Signature rows signature)
 
 -- ---- a note with several signatures
 
@@ -47,23 +47,8 @@ abbrev pub most_signatures : ℕ
 most_signatures = 16
 
 abbrev pub has_one_of : List AcceptedRow → List CheckpointSignature → Bool
-has_one_of rows signatures = list_any (λ row. list_any (λ s. bytes_eq s.raw row.signature) signatures) rows
+has_one_of rows signatures = list_any (λ s. has_part Signature rows s.raw) signatures
 
--- which of the key, the note and the first signatures some row has
-abbrev pub found_note_names : List AcceptedRow → List ℕ → List ℕ → List CheckpointSignature → List (List ℕ)
-found_note_names rows key note signatures =
-    named_if (has_key rows key) (codes "key")
-    ++ (named_if (has_message rows note) (codes "message")
-    ++ named_if (has_one_of rows (take most_signatures signatures)) (codes "signature"))
-
-abbrev pub note_rows : List AcceptedRow → List ℕ → List ℕ → List CheckpointSignature → List TreeMember
-note_rows rows key note signatures =
-    (codes "keySha256", Some (sha256_tree key))
-    ∷ (codes "messageSha256", Some (sha256_tree note))
-    ∷ texts_row (codes "accepted") (found_note_names rows key note signatures)
-    ∷ []
-
--- and the scheme under which they were asked
 abbrev pub asked_note_rows : List AcceptedRow → VerifyScheme → List ℕ → List ℕ → List CheckpointSignature → List TreeMember
 asked_note_rows rows scheme key note signatures =
-    text_row (codes "scheme") (name_of scheme) ∷ note_rows rows key note signatures
+    asked_about rows scheme key note (has_one_of rows (take most_signatures signatures))

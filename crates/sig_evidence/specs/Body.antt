@@ -65,8 +65,8 @@ first_item found = found >>= at 0
 -- ---- what differs of every body
 
 -- the kind of the entry, and its version
-abbrev pub head_difference : List ℕ → Option Data → Option BodyPart
-head_difference kind d = or_else
+abbrev pub kind_difference : List ℕ → Option Data → Option BodyPart
+kind_difference kind d = or_else
     (differing (codes "kind") kind (text_of (codes "kind") d))
     (differing (codes "apiVersion") (codes "0.0.1") (text_of (codes "apiVersion") d))
 
@@ -106,7 +106,7 @@ first_difference signature certificate first =
 abbrev pub dsse_difference_in : List ℕ → List ℕ → List ℕ → List ℕ → Option (List ℕ) → Option (List ℕ) → Option Data
     → Option Data → Option BodyPart
 dsse_difference_in envelope payload signature certificate got_envelope got_payload d spec =
-    or_else (head_difference (codes "dsse") d)
+    or_else (kind_difference (codes "dsse") d)
     (or_else (hashes_difference envelope payload got_envelope got_payload spec)
     (first_difference signature certificate (first_item (member_of (codes "signatures") spec))))
 
@@ -131,7 +131,7 @@ held_difference signature certificate held = signature_difference signature cert
 
 abbrev pub hashedrekord_difference_in : List ℕ → List ℕ → List ℕ → Option Data → Option Data → Option BodyPart
 hashedrekord_difference_in digits signature certificate d spec =
-    or_else (head_difference (codes "hashedrekord") d)
+    or_else (kind_difference (codes "hashedrekord") d)
     (or_else (digest_difference digits (member_of (codes "hash") (member_of (codes "data") spec)))
     (held_difference signature certificate (member_of (codes "signature") spec)))
 

@@ -14,7 +14,7 @@ ghost use Rattle.sig_dsse.specs.Digest.{digest_bytes};
 ghost use Rattle.sig_evidence.specs.Body.{body_difference, body_rows, content_difference, differing};
 ghost use Rattle.sig_evidence.specs.Body.{digest_difference, digits_of, dsse_difference, dsse_difference_in, envelope_difference};
 ghost use Rattle.sig_evidence.specs.Body.{first_difference, first_item, hash_difference, hashedrekord_difference};
-ghost use Rattle.sig_evidence.specs.Body.{hashedrekord_difference_in, hashes_difference, head_difference};
+ghost use Rattle.sig_evidence.specs.Body.{hashedrekord_difference_in, hashes_difference, kind_difference};
 ghost use Rattle.sig_evidence.specs.Body.{held_difference, is_text, member_of, part_of, part_rows, payload_difference, short};
 ghost use Rattle.sig_evidence.specs.Body.{signature_difference, text_of};
 ghost use Rattle.sig_json.specs.Tree.{tree};
@@ -206,11 +206,11 @@ fn hashedrekord_difference<'a, 't>(
         wanted.entry.certificate.now (option_map tree json.entry) (option_map tree spec.entry) }
 {
     let hash = member_of(member_of(spec, "data"), "hash");
-    let behind = or_else(
+    let rest = or_else(
         digest_difference(digest, hash),
         held_difference(wanted, member_of(spec, "signature")),
     );
-    or_else(head_difference("hashedrekord", json), behind)
+    or_else(kind_difference("hashedrekord", json), rest)
 }
 
 /// The first of two parts that is there.
@@ -311,8 +311,8 @@ fn signature_difference<'a>(
 }
 
 /// The kind of a body, or its version.
-fn head_difference<'a, 't>(kind: &'a str, json: Option<Json<'a, 't>>) -> Option<Part<'a>>
-    ensures { option_map part_of result ≡ head_difference kind.now (option_map tree json.entry) }
+fn kind_difference<'a, 't>(kind: &'a str, json: Option<Json<'a, 't>>) -> Option<Part<'a>>
+    ensures { option_map part_of result ≡ kind_difference kind.now (option_map tree json.entry) }
 {
     or_else(
         differing("kind", kind, text_of(json, "kind")),
@@ -425,11 +425,11 @@ fn dsse_difference<'a, 't>(
         (option_map (λ text. text.now) got.entry.payload) (option_map tree json.entry) (option_map tree spec.entry) }
 {
     let first = first_item(member_of(spec, "signatures"));
-    let behind = or_else(
+    let rest = or_else(
         hashes_difference(hashes, got, spec),
         first_difference(wanted, first),
     );
-    or_else(head_difference("dsse", json), behind)
+    or_else(kind_difference("dsse", json), rest)
 }
 
 /// The first element of a list that may be there.

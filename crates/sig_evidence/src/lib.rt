@@ -22,13 +22,13 @@ mod rules;
 mod sct;
 mod trees;
 
-pub use accepted::{MOST_SIGNATURES, with_accepted, with_accepted_note, with_accepted_under};
+pub use accepted::{MOST_KEY_BYTES, MOST_SIGNATURES, with_accepted, with_accepted_note};
 pub use authorities::{MOST_AUTHORITIES, with_authorities};
 pub use body::{MOST_COMPARED, with_body};
 pub use checks::{MOST_DIGESTS, with_subjects, with_times, with_validity};
 pub use fault::with_document_fault;
 pub use issuer::{MOST_ANCHORS, with_issuer};
-pub use logs::{MOST_LOGS, with_log_id, with_logs};
+pub use logs::{MOST_LOGS, logs_document, with_log_id};
 pub use rules::{MOST_RULES, with_policy_rules};
 pub use sct::with_sct;
 pub use trees::{note_document, with_proof, with_trees};

@@ -2,7 +2,6 @@
 ghost use Rattle.std.specs.Prelude.{◌≡◌, IfOk, codes, option_map};
 ghost use Rattle.sig_json.specs.Writing.{list_tree, members, members_into, put_some};
 ghost use Rattle.sig_evidence.specs.Logs.{log_id_rows, log_key_rows, log_tree, logs_tree, range_rows, state_name};
-ghost use Rattle.sig_json.specs.Data.{put};
 ghost use Rattle.sig_json.specs.Tree.{document_tree};
 ghost use Rattle.sig_root.specs.Picked.{has_begun, holds};
 ghost use Rattle.sig_shown.specs.ShownValues.{sha256_tree, time_tree};
@@ -28,25 +27,22 @@ pub fn with_log_id(object: Object, alloc: Global, id: &Option<Bytes>) -> Result<
     with_shown(object, alloc, "logId", "logIdLength", digits.as_str())
 }
 
-/// The object with logs of a trusted root as a member: of the first [`MOST_LOGS`] in order `logId` in hexadecimal,
-/// `keySha256`, the SHA-256 of the key, and of the key's range `state`, which is `holds`, `ended` or `not begun` at this
-/// second since 1970, `start` and `end`; what a log has not is left out. Fails only if out of memory.
+/// Logs of a trusted root: of the first [`MOST_LOGS`] in order `logId` in hexadecimal, `keySha256`, the SHA-256 of the key, and
+/// of the key's range `state`, which is `holds`, `ended` or `not begun` at this second since 1970, `start` and `end`; what a log
+/// has not is left out. Fails only if out of memory.
 #[tactic(auto, unfolding(crate::specs::Logs::logs_tree))]
-pub fn with_logs(
-    object: Object,
+pub fn logs_document(
     alloc: Global,
-    name: &str,
     logs: &[SparseInstance],
     now: &i64,
-) -> Result<Object, OutOfMemory>
-    ensures { IfOk result (λ made. members made ≡ put name.now (logs_tree now.now logs.now) (members object)) }
+) -> Result<Document, OutOfMemory>
+    ensures { IfOk result (λ document. document_tree document ≡ logs_tree now.now logs.now) }
 {
-    let value = logs_document(alloc, first(logs, MOST_LOGS), now)?;
-    object.with(alloc, name, value)
+    list_of(alloc, first(logs, MOST_LOGS), now)
 }
 
-/// Logs of a trusted root at a time.
-fn logs_document(alloc: Global, logs: &[SparseInstance], now: &i64) -> Result<Document, OutOfMemory>
+/// These logs.
+fn list_of(alloc: Global, logs: &[SparseInstance], now: &i64) -> Result<Document, OutOfMemory>
     ensures { IfOk result (λ document. document_tree document ≡ list_tree (log_tree now.now) logs.now) }
 {
     let mut list = Document::list(alloc);

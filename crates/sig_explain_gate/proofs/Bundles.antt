@@ -9,11 +9,14 @@ use Rattle.sig_explain_gate.specs.declared.bundle.Finding.{Finding}
 use Rattle.sig_explain_verify.specs.Inputs.{Inputs as Explained}
 use Rattle.sig_explain_verify.specs.RefusedTree.{IsRefusedTree}
 use Rattle.sig_explain_verify.specs.Verified.{IsVerifiedTree}
+use Rattle.sig_gate.specs.BundleVerdict.{outside}
 use Rattle.sig_gate.specs.declared.verdict.BundleVerdict.{BundleVerdict}
 use Rattle.sig_gate.specs.declared.verdict.BundleVerdict.TheVariants.{Verified, Refused}
+use Rattle.sig_gate_command.specs.Reply.{checker_with}
 use Rattle.sig_json.specs.Data.{Data}
 use Rattle.sig_json.specs.Tree.{document_tree}
 use Rattle.sig_json.specs.declared.error.JsonError.{JsonError}
+use Rattle.sig_policy.specs.declared.request.RequestPolicy.{RequestPolicy}
 use Rattle.sig_root.specs.RootRecord.{trusted_root_in}
 use Rattle.sig_verify.specs.HeldRoot.{IsHeldIn}
 use Rattle.sig_verify.specs.Judged.{Judged}
@@ -131,6 +134,27 @@ module _ (i : Explained) where
       with_verdict (Refused RootJson) found.verdict (document_tree found.document)
       (subst (λ (l : Link). found.verdict ≡ Refused l) link refused.verdict)
       (no_root-as held.0 (document_tree found.document) held.1 refused.shown)
+
+-- what the chain of trust says under a policy that equals that of the inputs
+module _ (i : Explained) (policy : RequestPolicy) (same : i.policy ≡ policy) where
+  abbrev asked : RequestPolicy → Outside
+  asked p = outside (checker_with i.accepted) p
+
+  abbrev pub Links : RequestPolicy → Outcome → Type 0
+  Links p result =
+      UnlessMemory {X = LoggedEntry} Memory result
+      (Judged {A = LoggedEntry} (HoldsOf (asked p) (chain_inputs i)) chain_links result)
+
+  abbrev pub Chain : RequestPolicy → Outcome → Type 0
+  Chain p result =
+      UnlessMemory {X = LoggedEntry} Memory result
+      (IsOffline (asked p).checker (asked p).policy i.root i.now i.digest i.bundle result)
+
+  pub links_here : (result : Outcome) → Links policy result → Links i.policy result
+  links_here result links = subst (λ (p : RequestPolicy). Links p result) (sym same) links
+
+  pub chain_here : (result : Outcome) → Chain policy result → Chain i.policy result
+  chain_here result chain = subst (λ (p : RequestPolicy). Chain p result) (sym same) chain
 
 -- two facts of a result, as a third
 pub both-ok : {A E : Type 0} → (r : Result A E) (P Q R : A → Type 0) → ((x : A) → P x → Q x → R x) → IfOk r P → IfOk r Q

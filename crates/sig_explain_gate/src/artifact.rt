@@ -3,6 +3,7 @@ ghost use Rattle.std.specs.Prelude.{◌≡◌, IfOk, OnOk, Some};
 ghost use Rattle.sig_base.specs.ByText.{text_lookup};
 ghost use Rattle.sig_explain_gate.specs.Artifact.{AreFound, IsArtifactFound, artifact_tree};
 ghost use Rattle.sig_explain_gate.specs.Roots.{AreRead, IsReadRoot};
+ghost use Rattle.sig_gate.specs.NamedPolicies.{AreHeldPolicies};
 ghost use Rattle.sig_gate_command.specs.Request.{parts_of};
 ghost use Rattle.sig_json.specs.Tree.{document_tree};
 ghost use Rattle.sig_manifest.specs.Artifact.{artifact_view};
@@ -13,11 +14,11 @@ use crate::bundle::find_under;
 use crate::roots::{ReadRoot, ReadRoots, read_named};
 use sig_base::OutOfMemory;
 use sig_explain_verify::VerifyInputs;
-use sig_gate::{BundleVerdicts, Verdict, is_admitted};
+use sig_gate::{BundleVerdicts, NamedPolicies, Verdict, hold_policy, is_admitted};
 use sig_gate_command::GateRequest;
 use sig_json::{Document, Object};
 use sig_manifest::Artifact;
-use sig_policy::RequestPolicy;
+use sig_policy::HeldPolicy;
 use std::alloc::Global;
 
 /// The verdict on an artifact, and the document that explains it.
@@ -36,19 +37,23 @@ pub(crate) struct Findings {
     list: Document,
 }
 
-/// What is found of an artifact. Its trusted root was read afterwards, if it has a bundle. Fails only if out of memory.
-pub(crate) fn find_artifact(
+/// What is found of an artifact. Its trusted root is read and its policy is held afterwards, if it has a bundle. Fails only if
+/// out of memory.
+pub(crate) fn find_artifact<'a>(
     alloc: Global,
     roots: &mut ReadRoots,
-    request: &GateRequest,
+    policies: &mut NamedPolicies<'a>,
+    request: &'a GateRequest,
     artifact: &Artifact,
 ) -> Result<ArtifactFinding, OutOfMemory>
     requires named { IsNamedIn (manifest_view request.now.manifest) (artifact_view artifact.now) }
     requires read { AreRead (manifest_view request.now.manifest) roots.old }
+    requires policies { AreHeldPolicies (manifest_view request.now.manifest) policies.old }
     ensures found { IfOk result (IsArtifactFound (parts_of request.entry.now) (artifact_view artifact.now)) }
     ensures read { OnOk result (AreRead (manifest_view request.entry.now.manifest) roots.new) }
+    ensures policies { OnOk result (AreHeldPolicies (manifest_view request.entry.now.manifest) policies.new) }
 {
-    let found = find_bundles(alloc, roots, request, artifact)?;
+    let found = find_bundles(alloc, roots, policies, request, artifact)?;
     let admitted = is_admitted(alloc, &artifact.rule, found.verdicts.as_slice())?;
     let document = written(alloc, admitted, found.list, artifact.name.as_str())?;
     let verdict = Verdict {
@@ -58,18 +63,21 @@ pub(crate) fn find_artifact(
     Ok(ArtifactFinding { verdict, document })
 }
 
-/// What is found of the bundles of an artifact. Its trusted root was read afterwards, if it has one.
-fn find_bundles(
+/// What is found of the bundles of an artifact. Its trusted root is read and its policy is held afterwards, if it has one.
+fn find_bundles<'a>(
     alloc: Global,
     roots: &mut ReadRoots,
-    request: &GateRequest,
+    policies: &mut NamedPolicies<'a>,
+    request: &'a GateRequest,
     artifact: &Artifact,
 ) -> Result<Findings, OutOfMemory>
     requires named { IsNamedIn (manifest_view request.now.manifest) (artifact_view artifact.now) }
     requires read { AreRead (manifest_view request.now.manifest) roots.old }
+    requires policies { AreHeldPolicies (manifest_view request.now.manifest) policies.old }
     ensures found { IfOk result (AreFound (parts_of request.entry.now) (artifact_view artifact.now)
         artifact.now.bundles) }
     ensures read { OnOk result (AreRead (manifest_view request.entry.now.manifest) roots.new) }
+    ensures policies { OnOk result (AreHeldPolicies (manifest_view request.entry.now.manifest) policies.new) }
 {
     if artifact.bundles.len() == 0 {
         return Ok(Findings {
@@ -85,7 +93,9 @@ fn find_bundles(
     let Some(text) = request.manifest.roots.get(name) else {
         unreachable!()
     };
-    let Some(policy) = request.manifest.policies.get(artifact.policy.as_str()) else {
+    let policy_name = artifact.policy.as_str();
+    hold_policy(alloc, policies, &request.manifest, policy_name)?;
+    let Some(policy) = policies.get(policy_name) else {
         unreachable!()
     };
     let now = request.manifest.now;
@@ -98,7 +108,7 @@ fn find_each(
     root: &ReadRoot,
     text: &[u8],
     now: i64,
-    policy: &RequestPolicy,
+    policy: &HeldPolicy<'_>,
     request: &GateRequest,
     artifact: &Artifact,
 ) -> Result<Findings, OutOfMemory>
@@ -117,10 +127,10 @@ fn find_each(
             now,
             digest: &artifact.digest,
             bundle: bundle.as_slice(),
-            policy,
+            policy: policy.policy(),
             accepted: &request.accepted,
         };
-        let found = find_under(alloc, root, &inputs)?;
+        let found = find_under(alloc, root, policy, &inputs)?;
         verdicts.push(found.verdict)?;
         list.push(found.document)?;
     }

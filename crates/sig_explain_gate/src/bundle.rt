@@ -16,7 +16,7 @@ use sig_explain_verify::{
 };
 use sig_gate::BundleVerdict;
 use sig_json::Document;
-use sig_request::BriefPolicy;
+use sig_policy::HeldPolicy;
 use sig_verify::{HeldRoot, LoggedEntry, OfflineError};
 use std::alloc::Global;
 
@@ -28,17 +28,19 @@ pub(crate) struct Finding {
     pub(crate) document: Document,
 }
 
-/// What is found of a bundle under its trusted root. Fails only if out of memory.
+/// What is found of a bundle under its trusted root and its policy. Fails only if out of memory.
 pub(crate) fn find_under(
     alloc: Global,
     root: &ReadRoot,
+    policy: &HeldPolicy<'_>,
     inputs: &VerifyInputs<'_>,
 ) -> Result<Finding, OutOfMemory>
-    requires { IsReadRoot inputs.now.trusted_root.now inputs.now.now root.now }
+    requires root { IsReadRoot inputs.now.trusted_root.now inputs.now.now root.now }
+    requires policy { inputs.now.policy.now ≡ policy.now }
     ensures { IfOk result (IsFoundHere (inputs_of inputs.entry.now)) }
 {
     match &root.held {
-        Ok(held) => find_held(alloc, held, &root.shown, inputs),
+        Ok(held) => find_held(alloc, held, &root.shown, policy, inputs),
         Err(error) => refused(alloc, &root.shown, inputs, error),
     }
 }
@@ -48,23 +50,16 @@ fn find_held(
     alloc: Global,
     held: &HeldRoot,
     shown: &ShownRoot,
+    policy: &HeldPolicy<'_>,
     inputs: &VerifyInputs<'_>,
 ) -> Result<Finding, OutOfMemory>
     requires held { IsHeldOf inputs.now.trusted_root.now inputs.now.now held.now }
     requires shown { IsShownRoot inputs.now.trusted_root.now inputs.now.now shown.now }
+    requires policy { inputs.now.policy.now ≡ policy.now }
     ensures { IfOk result (IsFoundHere (inputs_of inputs.entry.now)) }
 {
-    // A refusal in full may be longer than memory has room for; the explanation shows the rules themselves.
-    let policy = BriefPolicy {
-        policy: inputs.policy,
-    };
-    match held.verify(
-        alloc,
-        inputs.digest,
-        inputs.bundle,
-        &policy,
-        inputs.accepted,
-    ) {
+    // The refusal of a held policy is short; the explanation shows the rules themselves.
+    match held.verify(alloc, inputs.digest, inputs.bundle, policy, inputs.accepted) {
         Ok(entry) => verified(alloc, shown, inputs, entry),
         Err(error) => {
             let found = refused(alloc, shown, inputs, &error);

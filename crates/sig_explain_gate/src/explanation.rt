@@ -43,9 +43,7 @@ pub fn explained_gate(alloc: Global, text: &[u8]) -> Result<ExplainedGate, OutOf
     let Some(request) = GateRequest::read(alloc, text)? else {
         return explain_unread(alloc, text);
     };
-    let explained = explain_manifest(alloc, &request);
-    drop(request);
-    explained
+    explain_read(alloc, request)
 }
 
 /// The reply to a text that is not a manifest, and what is wrong with it.
@@ -70,6 +68,19 @@ fn unread_document(alloc: Global, text: &[u8]) -> Result<Document, OutOfMemory>
         }
         None => Ok(Object::new(alloc).into_document()),
     }
+}
+
+/// The reply to a manifest, and what is shown of it, once its accepted signatures can be asked by their parts.
+fn explain_read(alloc: Global, request: GateRequest) -> Result<ExplainedGate, OutOfMemory>
+    requires { AreNamed (manifest_view request.manifest) }
+    ensures reply { IfOk result (λ explained. IsReportOf (parts_of request) explained.reply) }
+    ensures tree { IfOk result (λ explained. IsGateTree (parts_of request) (document_tree explained.document)) }
+{
+    let mut request = request;
+    request.accepted.order_parts(alloc)?;
+    let explained = explain_manifest(alloc, &request);
+    drop(request);
+    explained
 }
 
 /// The reply to a manifest, and what is shown of it.

@@ -11,7 +11,7 @@ ghost use Rattle.sig_explain_log.specs.Refusals.{note_key_rows, unsigned_rows};
 ghost use Rattle.sig_rekor.specs.CheckpointText.{checkpoint_of};
 
 use crate::reading::read_note;
-use sig_base::{AcceptedRow, OutOfMemory, TableChecker, VerifyScheme};
+use sig_base::{OutOfMemory, TableChecker, VerifyScheme};
 use sig_evidence::with_accepted_note;
 use sig_explanation::with_cause;
 use sig_json::Object;
@@ -34,9 +34,7 @@ pub fn with_unsigned(
         ≡ members_into (members object) (unsigned_rows scheme key.now accepted.now (checkpoint_of text.now))) }
 {
     match read_note(alloc, text)? {
-        Ok(checkpoint) => {
-            with_note_key(object, alloc, scheme, key, accepted.rows(), &checkpoint)
-        }
+        Ok(checkpoint) => with_note_key(object, alloc, scheme, key, accepted, &checkpoint),
         Err(_) => Ok(object),
     }
 }
@@ -47,18 +45,18 @@ fn with_note_key(
     alloc: Global,
     scheme: VerifyScheme,
     key: &[u8],
-    rows: &[AcceptedRow],
+    accepted: &TableChecker,
     checkpoint: &SignedNote<'_>,
 ) -> Result<Object, OutOfMemory>
     ensures { IfOk result (λ made. members made
-        ≡ members_into (members object) (note_key_rows scheme key.now rows.now checkpoint.now)) }
+        ≡ members_into (members object) (note_key_rows scheme key.now accepted.now checkpoint.now)) }
 {
     let note = checkpoint.marshal(alloc)?;
     let object = with_cause(object, alloc, "CheckpointSignatureVerificationError")?;
     with_accepted_note(
         object,
         alloc,
-        rows,
+        accepted,
         scheme,
         key,
         note.as_str().as_bytes(),

@@ -1,4 +1,4 @@
-//! A text that has to be a request and is none.
+//! A text that has to be a request and is not one.
 //!
 //! ```text
 //! {"cause":["TooLong"],"link":"request"}

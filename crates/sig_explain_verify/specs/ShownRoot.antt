@@ -3,6 +3,8 @@ use Rattle.std.specs.Prelude.{◌≡◌, ℕ, ℤ, List, [], Option, Some, None,
 use Rattle.sig_base.specs.OptionSteps.{◌>>=◌}
 use Rattle.sig_certificate.specs.Certificate.{Cert, IsCertificate}
 use Rattle.sig_document_fault.specs.RootTable.{root_table}
+use Rattle.sig_evidence.specs.Logs.{logs_tree}
+use Rattle.sig_json.specs.Tree.{document_tree}
 use Rattle.sig_root.specs.declared.record.TrustedRoot.{TrustedRoot}
 use Rattle.sig_table.specs.DocumentFault.{fault_in}
 use Rattle.sig_table.specs.declared.fault.DocumentFault.{DocumentFault}
@@ -31,6 +33,8 @@ pub record IsGivenAt (root : TrustedRoot) (now : ℤ) (parts : TrustParts) : Typ
   pub log_keys : parts.log_keys ≡ rekor_keys root now
   pub read : AreReadAll IsCertificate (authorities root now) parts.authorities
   pub anchors : IsPoolOf (authorities root now) parts.pool
+  pub ctlogs : document_tree parts.ctlogs ≡ logs_tree now root.ctlogs
+  pub tlogs : document_tree parts.tlogs ≡ logs_tree now root.tlogs
 
 abbrev pub IsTrustIn : Option TrustedRoot → ℤ → Option TrustParts → Type 0
 IsTrustIn None now found = found ≡ None

@@ -15,8 +15,8 @@ use sig_bundle::ArtifactDigest;
 use sig_certificate::Certificate;
 use sig_checked_bundle::{CheckedBundle, CheckedContent};
 use sig_evidence::{
-    with_accepted_under, with_authorities, with_body, with_issuer, with_logs, with_policy_rules,
-    with_sct, with_subjects, with_times,
+    with_accepted, with_authorities, with_body, with_issuer, with_policy_rules, with_sct,
+    with_subjects, with_times,
 };
 use sig_json::Object;
 use sig_shown::with_time;
@@ -103,10 +103,10 @@ pub(crate) fn with_ctlogs(
     ensures { IfOk result (λ made. members made
         ≡ members_into (members object) (ctlogs_rows (inputs_of inputs.entry.now))) }
 {
-    match &root.root {
-        Some(root) => {
+    match &root.trust {
+        Some(parts) => {
             let object = with_time(object, alloc, "now", &inputs.now)?;
-            with_logs(object, alloc, "ctlogs", root.ctlogs.as_slice(), &inputs.now)
+            object.with(alloc, "ctlogs", parts.ctlogs.view().copy(alloc)?)
         }
         None => Ok(object),
     }
@@ -123,10 +123,10 @@ pub(crate) fn with_tlogs(
     ensures { IfOk result (λ made. members made
         ≡ members_into (members object) (tlogs_rows (inputs_of inputs.entry.now))) }
 {
-    match &root.root {
-        Some(root) => {
+    match &root.trust {
+        Some(parts) => {
             let object = with_time(object, alloc, "now", &inputs.now)?;
-            with_logs(object, alloc, "tlogs", root.tlogs.as_slice(), &inputs.now)
+            object.with(alloc, "tlogs", parts.tlogs.view().copy(alloc)?)
         }
         None => Ok(object),
     }
@@ -160,10 +160,10 @@ fn with_signed(
         (signed_rows (inputs_of inputs.entry.now) checked.now (key.entry.scheme, key.entry.spki.now))) }
 {
     match signed_bytes(inputs.digest, checked.content()) {
-        Some(message) => with_accepted_under(
+        Some(message) => with_accepted(
             object,
             alloc,
-            inputs.accepted.rows(),
+            inputs.accepted,
             key.scheme,
             key.spki,
             message,

@@ -16,7 +16,7 @@ use crate::key::{AskedKey, log_key};
 use crate::root::ShownRoot;
 use sig_base::{OutOfMemory, Text};
 use sig_bundle::{TransparencyLogEntry, promise_text};
-use sig_evidence::{with_accepted_note, with_accepted_under, with_log_id, with_trees};
+use sig_evidence::{with_accepted, with_accepted_note, with_log_id, with_trees};
 use sig_json::Object;
 use sig_json_text::CanonicalError;
 use sig_rekor::SignedCheckpoint;
@@ -101,10 +101,10 @@ fn with_promised(
     };
     match promise_text_of(alloc, entry)? {
         Some(text) => {
-            let made = with_accepted_under(
+            let made = with_accepted(
                 object,
                 alloc,
-                inputs.accepted.rows(),
+                inputs.accepted,
                 key.scheme,
                 key.spki,
                 text.as_str().as_bytes(),
@@ -196,7 +196,7 @@ fn with_signatures(
     with_accepted_note(
         object,
         alloc,
-        inputs.accepted.rows(),
+        inputs.accepted,
         key.scheme,
         key.spki,
         note.as_str().as_bytes(),

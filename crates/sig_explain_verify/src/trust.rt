@@ -1,12 +1,17 @@
-//! What a trusted root gives at a time: certificates of authorities, a pool of trust anchors, and keys of logs.
+//! What a trusted root gives at a time: certificates of authorities, a pool of trust anchors, keys of logs, and what is shown of
+//! its logs.
 ghost use Rattle.std.specs.Prelude.{◌≡◌, IfOk};
 ghost use Rattle.sig_certificate.specs.Certificate.{IsCertificate};
+ghost use Rattle.sig_evidence.specs.Logs.{logs_tree};
 ghost use Rattle.sig_explain_verify.specs.Parts.{AreReadAll, IsReadOne};
 ghost use Rattle.sig_explain_verify.specs.ShownRoot.{IsGivenAt, IsPoolOf, IsTrustIn};
+ghost use Rattle.sig_json.specs.Tree.{document_tree};
 ghost use Rattle.sig_verify.specs.RootLinks.{authorities, rekor_keys};
 
 use sig_base::{Entries, KeyMap, OutOfMemory, OwnedList, PoolError};
 use sig_certificate::{Certificate, X509ReadError};
+use sig_evidence::logs_document;
+use sig_json::Document;
 use sig_root::{TrustedRoot, pick_certificates, pick_keys};
 use sig_x509::CertificatePool;
 use std::alloc::Global;
@@ -20,6 +25,10 @@ pub(crate) struct TrustParts {
     pub(crate) authorities: Option<OwnedList<Certificate>>,
     /// The same as a pool, if each is a trust anchor.
     pub(crate) pool: Option<CertificatePool>,
+    /// What is shown of the Certificate Transparency logs, with the hashes of their keys.
+    pub(crate) ctlogs: Document,
+    /// Likewise of the logs of signatures.
+    pub(crate) tlogs: Document,
 }
 
 /// What a trusted root gives at a time; `None` if there is none. Fails only if out of memory.
@@ -47,10 +56,14 @@ fn trust_of(alloc: Global, root: &TrustedRoot, now: i64) -> Result<TrustParts, O
     let authorities = read_certificates(alloc, &ders)?;
     let pool = pool_of(alloc, &ders)?;
     let log_keys = log_keys_of(alloc, root, now)?;
+    let ctlogs = shown_ctlogs(alloc, root, now)?;
+    let tlogs = shown_tlogs(alloc, root, now)?;
     Ok(TrustParts {
         log_keys,
         authorities,
         pool,
+        ctlogs,
+        tlogs,
     })
 }
 
@@ -61,7 +74,7 @@ fn authorities_of(alloc: Global, root: &TrustedRoot, now: i64) -> Result<Entries
     pick_certificates(alloc, root.certificate_authorities.as_slice(), now)
 }
 
-/// The certificates that these bytes are, one by one; `None` if some are none.
+/// The certificates that these bytes are, one by one; `None` if some are not certificates.
 fn read_certificates(
     alloc: Global,
     ders: &Entries,
@@ -89,7 +102,7 @@ fn read_certificate(alloc: Global, der: &[u8]) -> Result<Option<Certificate>, Ou
     }
 }
 
-/// The pool of trust anchors that these bytes are; `None` if some are none.
+/// The pool of trust anchors that these bytes are; `None` if some are not trust anchors.
 #[tactic(auto, using(sig_verify::proofs::AloneAnchors::alone_anchors))]
 fn pool_of(alloc: Global, ders: &Entries) -> Result<Option<CertificatePool>, OutOfMemory>
     ensures { IfOk result (IsPoolOf ders.now) }
@@ -109,4 +122,18 @@ fn log_keys_of(alloc: Global, root: &TrustedRoot, now: i64) -> Result<KeyMap, Ou
     ensures { IfOk result (λ keys. keys ≡ rekor_keys root.now now) }
 {
     pick_keys(alloc, root.tlogs.as_slice(), now)
+}
+
+/// What is shown of the Certificate Transparency logs.
+fn shown_ctlogs(alloc: Global, root: &TrustedRoot, now: i64) -> Result<Document, OutOfMemory>
+    ensures { IfOk result (λ document. document_tree document ≡ logs_tree now root.now.ctlogs) }
+{
+    logs_document(alloc, root.ctlogs.as_slice(), &now)
+}
+
+/// What is shown of the logs of signatures.
+fn shown_tlogs(alloc: Global, root: &TrustedRoot, now: i64) -> Result<Document, OutOfMemory>
+    ensures { IfOk result (λ document. document_tree document ≡ logs_tree now root.now.tlogs) }
+{
+    logs_document(alloc, root.tlogs.as_slice(), &now)
 }

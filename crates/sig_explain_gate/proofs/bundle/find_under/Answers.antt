@@ -13,6 +13,6 @@ use Rattle.sig_explain_gate.proofs.bundle.find_under.Goals as goal
 pub returns-in-Err : goal.returns-in-Err
 returns-in-Err c =
     let i = inputs_of c.args.inputs.now in
-    let held = subst (λ (h : Result HeldRoot OfflineError). IsHeldIn i.root i.now h) c.in-Err.is c.requires.held in
+    let held = subst (λ (h : Result HeldRoot OfflineError). IsHeldIn i.root i.now h) c.in-Err.is c.requires.root.held in
     IfOk-weaker c.refused.result (IsRefusedHere i c.in-Err.error) (IsFoundHere i)
     (λ found. no_root-found i c.in-Err.error found held) c.refused.ensures

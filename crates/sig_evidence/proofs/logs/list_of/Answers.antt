@@ -3,7 +3,7 @@ use Rattle.std.proofs.Common.{arith}
 use Rattle.sig_json.specs.Tree.{document_tree}
 use Rattle.sig_evidence.specs.Logs.{log_tree}
 use Rattle.sig_shown.proofs.Lists.{list_more}
-use Rattle.sig_evidence.proofs.logs.logs_document.Goals as goal
+use Rattle.sig_evidence.proofs.logs.list_of.Goals as goal
 
 pub logs-preserved : goal.logs-preserved
 logs-preserved c =

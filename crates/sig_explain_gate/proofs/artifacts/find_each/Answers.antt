@@ -9,7 +9,7 @@ use Rattle.sig_manifest.specs.Artifact.{artifact_view}
 use Rattle.sig_manifest.specs.Manifest.{artifacts_view, manifest_view}
 use Rattle.sig_manifest.specs.Unknown.{IsNamedIn}
 use Rattle.sig_manifest.specs.declared.artifact.Artifact.{Artifact}
-use Rattle.sig_explain_gate.proofs.artifacts.find_under_roots.Goals as goal
+use Rattle.sig_explain_gate.proofs.artifacts.find_each.Goals as goal
 
 pub find_artifact-requires-clause-named : goal.find_artifact-requires-clause-named
 find_artifact-requires-clause-named c =
@@ -26,6 +26,7 @@ artifacts-preserved c = (
       (document_tree c.push-in-artifacts.new.self) c.artifacts-test.true c.artifact-item.is c.in_ok-found.ensures.found
       c.in_ok-push.ensures.ok c.in_ok-push-2.ensures.ok c.artifacts.invariant.0,
   c.in_ok-found.ensures.read,
+  c.in_ok-found.ensures.policies,
 )
 
 pub returns : goal.returns
