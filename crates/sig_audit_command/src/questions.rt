@@ -22,7 +22,7 @@ use std::alloc::Global;
 /// Fails only if out of memory.
 ///
 /// Of two requests that differ in their accepted signatures alone, and in none of those that are asked for, `audit` has
-/// the same reply. And a list that is written fits one request with the request that it is of.
+/// the same reply, also where no list is written. And a list that is written fits one request with the request that it is of.
 pub fn audit_questions(alloc: Global, request: &[u8]) -> Result<Reply, OutOfMemory>
     ensures reply { IfOk result (IsAuditQuestionsReply request.now) }
     ensures suffice { AuditQuestionsSuffice }

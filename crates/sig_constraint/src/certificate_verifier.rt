@@ -102,16 +102,6 @@ impl<C: SignatureChecker + Drop> VerificationConstraint for CertificateVerifier<
     }
 }
 
-/// Whether a log took the layer within the certificate's validity; or whether none has to have.
-fn is_timely(certificate: &Certificate, required: bool, bundle: &Option<BundleContent>) -> bool
-    ensures { result ≡ is_timely certificate.now required bundle.now }
-{
-    match bundle {
-        Some(bundle) => verify_expiration(certificate, bundle.integrated_time()).is_ok(),
-        None => !required,
-    }
-}
-
 /// The certificate that the bytes are, and its key.
 fn certified<C: SignatureChecker>(
     alloc: Global,
@@ -162,4 +152,14 @@ fn check_signer(certificate: &Certificate, now: i64) -> Result<()>
     verify_key_usages(certificate)?;
     verify_has_san(certificate)?;
     verify_validity(certificate, now)
+}
+
+/// Whether a log took the layer within the certificate's validity; or whether none has to have.
+fn is_timely(certificate: &Certificate, required: bool, bundle: &Option<BundleContent>) -> bool
+    ensures { result ≡ is_timely certificate.now required bundle.now }
+{
+    match bundle {
+        Some(bundle) => verify_expiration(certificate, bundle.integrated_time()).is_ok(),
+        None => !required,
+    }
 }

@@ -34,7 +34,7 @@ pub fn read_manifest(alloc: Global, text: &[u8]) -> Result<(Manifest, TableCheck
     // A manifest that is returned is that of the text, and the trusted root and the policy of each artifact are there.
     ensures found { IfOk result (λ parts. IsManifestWith text.now (parts_view parts)) }
     ensures named { IfOk result (λ parts. AreNamed (manifest_view parts.0)) }
-    // An error is the first cause why the text is none.
+    // An error is the first cause why the text is not a manifest.
     ensures refused { IfErr result (IsRefused text.now) }
     // The same in one equation.
     ensures answer { Answers ManifestError.OutOfMemory parts_view result (manifest_in text.now) }

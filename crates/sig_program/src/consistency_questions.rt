@@ -21,7 +21,7 @@ use std::alloc::Global;
 /// not matter. Fails only if out of memory.
 ///
 /// Of two requests that differ in their accepted signatures alone, and in none of those that are asked for, `consistency`
-/// has the same reply.
+/// has the same reply, also where no list is written.
 pub fn consistency_questions(alloc: Global, request: &[u8]) -> Result<Reply, OutOfMemory>
     ensures reply { IfOk result (IsReply ConsistencyQuestions request.now) }
     ensures suffice { ConsistencyQuestionsSuffice }

@@ -13,7 +13,7 @@ use sig_questions::laws::{questions_suffice, refusals};
 use sig_witness_command::laws::witness_lists;
 
 /// Nothing but the signatures that are asked for decides the reply of `log`, of `verify`, of `consistency`, of `audit`, of
-/// `witness` and of `gate`; a link that `questions verify` names is the first that fails in `verify`, whatever is accepted;
+/// `witness` and of `gate`, also where no list of them is written; a link that `questions verify` names is the first that fails in `verify`, whatever is accepted;
 /// and a list that is written fits one request with the request that it is of.
 pub fn lists()
     ensures log { LogQuestionsSuffice }

@@ -134,16 +134,16 @@ fn front_line_of(
     }
 }
 
-/// `prefix M`.
-fn prefix_text(alloc: Global, count: u64) -> Result<Text, OutOfMemory>
-    ensures { IfOk result (λ line. line ≡ prefix_line count) }
-{
-    Ok(Text::from(format!(in alloc; "prefix {count}\n")?))
-}
-
 /// `entry I`.
 fn entry_text(alloc: Global, index: i64) -> Result<Text, OutOfMemory>
     ensures { IfOk result (λ line. line ≡ entry_line index) }
 {
     Ok(Text::from(format!(in alloc; "entry {index}\n")?))
+}
+
+/// `prefix M`.
+fn prefix_text(alloc: Global, count: u64) -> Result<Text, OutOfMemory>
+    ensures { IfOk result (λ line. line ≡ prefix_line count) }
+{
+    Ok(Text::from(format!(in alloc; "prefix {count}\n")?))
 }

@@ -33,7 +33,7 @@ use std::alloc::Global;
 /// matter. Fails only if out of memory.
 ///
 /// Of two requests that differ in their accepted signatures alone, and in none of those that a link asks for, `verify`
-/// has the same reply.
+/// has the same reply, also where no list is written.
 pub fn verify_questions(alloc: Global, request: &[u8]) -> Result<Reply, OutOfMemory>
     ensures reply { IfOk result (IsReply VerifyQuestions request.now) }
     ensures suffice { VerifyQuestionsSuffice }

@@ -11,7 +11,7 @@
 //! ```
 //!
 //! The layer above uses two facts. Nothing is wrong with a text if and only if it is a request of the command. And of a
-//! text that is none, the fault is that it has more than 2^24 bytes; else that it is not JSON, or has a float; else the
+//! text that is not one, the fault is that it has more than 2^24 bytes; else that it is not JSON, or has a float; else the
 //! first member in the order of the table, which is that of docs/REQUESTS.md, whatever the order in the text.
 //!
 //! The readers of requests keep no member's name: this is a second pass over the text, for a caller that has to tell
