@@ -2,6 +2,7 @@
 the rest is the fixture of tools/fixture.py, of which each link holds unless the table says another reply."""
 import random
 
+import long_keys
 import shapes
 from roots import (anchors_and_rows, anchors_by_name, anchors_of_one_key, anchors_of_other_keys, anchors_over_intermediates, authorities,
                    certificate_log_keys, log_keys, log_keys_of_one_id, usual_log_keys, with_anchors)
@@ -38,7 +39,7 @@ def leaf_of_extensions(count):
 
 
 def names_of(count):
-    """So many identities that share a prefix, in an order that is none."""
+    """So many identities that share a prefix, in no order."""
     return [fixture.WORKFLOW + place.hex() for place in numbered(b"", count)]
 
 
@@ -163,6 +164,12 @@ def note_of_many_lines(count):
     return with_note(made, numbered(b"s" * 66, count), [])
 
 
+def note_signatures_of_a_long_key(count):
+    """Signatures of the note by a key of a hundred bytes for each."""
+    made = fixture.Request(log_key=long_keys.long_key(100 * count), log_scheme=long_keys.SCHEME)
+    return with_note(made, numbered(b"s" * 66, count), [])
+
+
 def rows_by_signature(count):
     """Rows that differ from the note's in the last bytes of the signature."""
     made = fixture.Request()
@@ -277,7 +284,7 @@ def object_before(count):
 
 
 def object_around(count):
-    """An object of so many members in an order that is none, and in it the float."""
+    """An object of so many members in no order, and in it the float."""
     return shapes.members("")(count)[:-1] + b',"y":1.5,"y":1}'
 
 
@@ -315,6 +322,7 @@ REQUESTS = {
         ("policy rules, extensions", rules_over_extensions),
         ("signatures of the note, rows", note_signatures),
         ("signatures of the note, its lines", note_of_many_lines),
+        ("signatures of the note, a long key", note_signatures_of_a_long_key),
         ("rows by signature", rows_by_signature),
         ("rows by message", rows_by_message),
         *(

@@ -1,14 +1,21 @@
 """Requests of `explain`, and their table: those of the commands' own tables, at the largest size, and those whose explanations cost most."""
+import itertools
 import json
 
 import chains
+import gate_policies
+import gate_roots
 import gates
+import manifests
 import measure
+import notes
 import shapes
 import witnesses
-from goals import MOST_MEGABYTES, MOST_SECONDS
+from asked import largest
+from gate_refusals import REFUSALS
+from goals import MOST_DOUBLED, MOST_MEGABYTES, MOST_SECONDS
 from measure import megabytes
-from shapes import EXAMPLE, filled, numbered, signature_line
+from shapes import EXAMPLE, numbered, signature_line
 from signed import written
 
 import fixture
@@ -38,7 +45,7 @@ def last_float(count):
 
 
 def last_rule(count):
-    """So many rules of a policy, the last of which is none."""
+    """So many rules of a policy, the last of which is not one."""
     return written_policy([{"ref": "x"}] * count + [{}])
 
 
@@ -48,14 +55,14 @@ def written_policy(rules):
 
 
 def last_log(count):
-    """A trusted root of so many logs without members, and one that is none."""
+    """A trusted root of so many logs without members, and one that is not a record."""
     made = fixture.Request()
     root = made.trusted_root()
     return written(made, {**root, "ctlogs": [*root["ctlogs"], *[{}] * count, 1]})
 
 
 def last_log_entry(count):
-    """A bundle of so many log entries without members, and one that is none."""
+    """A bundle of so many log entries without members, and one that is not a record."""
     made = fixture.Request()
     bundle = made.bundle()
     bundle["verificationMaterial"]["tlogEntries"] += [{}] * count + [1]
@@ -99,7 +106,7 @@ def rules_of_names(count):
     names = der(SEQUENCE, *[der(fixture.URI, place.hex().encode()) for place in numbered(b"", count)])
     held = fixture.leaf_extensions(names=extension(fixture.SUBJECT_ALTERNATIVE_NAME, names, critical=True))
     rule = {"identity": "x", "issuer": fixture.ISSUER}
-    return written(fixture.Request(leaf=leaf(held), policy={"all": [rule] * 64}))
+    return written(fixture.Request(leaf=leaf(held), policy={"all": [rule] * 32}))
 
 
 def mismatched(count):
@@ -130,63 +137,83 @@ def unsigned_bundles(count):
     made = fixture.Request()
     rows = [row for place, row in enumerate(made.accepted()) if place != 2]
     others = list(map(shapes.row, numbered(b"m" * 24, count)))
-    return gates.manifest(made, [gates.artifact(made, place) for place in range(256)], rows + others)
+    return manifests.of_bundles(made, rows=rows + others)
 
 
 def root_that_is_none(count):
-    """As many bundles as there may be under a trusted root whose last log is none."""
+    """As many bundles as there may be under a trusted root whose last log is not one."""
     made = fixture.Request()
     root = made.trusted_root()
-    text = compact({**root, "ctlogs": [*root["ctlogs"], *[{}] * count, 1]})
-    return gates.manifest(made, [gates.artifact(made, place) for place in range(256)], made.accepted(), roots={"root": text})
+    return manifests.of_bundles(made, {**root, "ctlogs": [*root["ctlogs"], *[{}] * count, 1]})
 
 
 OWN = {
-    "log": (("the last accepted signature is none", last_row), ("the last hash is none", last_hash), ("the last entry is none", last_entry),
+    "log": (("the last accepted signature is not one", last_row), ("the last hash is not one", last_hash), ("the last entry is not one", last_entry),
             ("a float after many hashes", last_float), ("a long origin", long_note)),
-    "verify": (("the last rule is none", last_rule), ("the last log of the trusted root is none", last_log),
-               ("the last log entry of the bundle is none", last_log_entry), ("an issuer's name of many parts", issuer_of_parts),
+    "verify": (("the last rule is not one", last_rule), ("the last log of the trusted root is not one", last_log),
+               ("the last log entry of the bundle is not one", last_log_entry), ("an issuer's name of many parts", issuer_of_parts),
                ("an issuer's name of one long part", issuer_of_a_long_part), ("a long payload that nobody signed", unsigned_payload),
                ("a long certificate that nobody signed", unsigned_extensions), ("rules that show all names", rules_of_names),
                ("digests of many subjects, none the artifact's", mismatched)),
     "witness": (("updates that nobody signed, accepted signatures", unsigned_updates),),
     "gate": (("bundles whose envelopes nobody signed, accepted signatures", unsigned_bundles),
-             ("bundles under a trusted root that is none", root_that_is_none)),
+             ("bundles under a text that is not a trusted root", root_that_is_none)),
 }
 
 
-def of_tables(bench, kinds_of):
-    """The requests of the commands' own tables, at the largest size."""
+def of_count(made_by, make):
+    """How a request is made of a size by a table that also says what is written of it."""
+    return lambda size: make(made_by.count_of(make, size))[0]
+
+
+def of_tables(kinds_of):
+    """The command, what the request is, and how it is made of a size, of those of the commands' own tables."""
     for command, kinds in {**kinds_of, "verify": chains.REQUESTS}.items():
         for requests in kinds.values():
             for title, make in requests:
-                yield command, title, filled(make, bench.most)
+                yield command, title, largest(make)
     for command, made_by in (("witness", witnesses), ("gate", gates)):
         for title, make in made_by.LISTS:
-            yield command, title, make(made_by.count_of(make, bench.most))[0]
+            yield command, title, of_count(made_by, make)
+    for title, make, _ in (*gate_policies.MANIFESTS, *gate_roots.GATES):
+        yield "gate", title, largest(make)
 
 
-def of_its_own(bench):
+def own():
+    """The same of those whose explanations cost most."""
     for command, kinds in OWN.items():
         for title, make in kinds:
-            yield command, title, filled(make, bench.most)
+            yield command, title, largest(make)
+    for link, title, make in REFUSALS:
+        yield "gate", f"refused at {link}: {title}", largest(make)
+    for command, title, make in notes.EXPLAINED:
+        yield command, title, largest(make)
 
 
 def requests(bench, kinds_of):
-    """Each command, what the request is, and its text; and texts that are too long for one."""
-    yield from of_tables(bench, kinds_of)
-    yield from of_its_own(bench)
+    """Each command, what the request is, its text, and that of half the size; and texts that are too long for one, which have none."""
+    for command, title, made in itertools.chain(of_tables(kinds_of), own()):
+        yield command, title, made(bench.most), made(bench.most // 2)
     for command in ("log", "verify"):
-        yield command, "too long, refused", b" " * (2 * bench.most)
+        yield command, "too long, refused", b" " * (2 * bench.most), None
 
 
-def measured(bench, table, command, title, text):
-    """The row of a request: the time and memory of `explain`, beside the time of the command alone."""
+def timed(bench, command, text):
+    """The status, the time and the memory of `explain` over a request, and the time of the command alone."""
     path, words, plain = bench.kept(text), [bench.program, "explain", command], [bench.program, command]
     status = measure.status_over(plain, path)
     took, alone = bench.seconds(path, words, plain, status=status)
     peak = megabytes(words, path, status)
-    table.row(f"{command}, {title}", status, len(text), took * 1000, round(peak), took / alone)
+    path.unlink()
+    return status, took, peak, alone
+
+
+def measured(bench, table, command, title, text, half):
+    """The row of a request: the time and memory of `explain`, beside the time of the command alone, and that over half as much."""
+    first = half and timed(bench, command, half)[1]
+    status, took, peak, alone = timed(bench, command, text)
+    table.row(f"{command}, {title}", status, len(text), took * 1000, round(peak), took / alone, half and took / first)
     bench.goal(f"explain {command}, {title}, MB", peak, MOST_MEGABYTES)
     bench.goal(f"explain {command}, {title}, seconds", took, MOST_SECONDS)
-    path.unlink()
+    if half:
+        bench.goal(f"explain {command}, {title}, time to that at half", took / first, MOST_DOUBLED)

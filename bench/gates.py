@@ -1,40 +1,23 @@
 """Manifests of `gate`, and their table. Each is a function from a count to the bytes and to what the program writes."""
+import gate_policies
+import gate_roots
 import measure
 import shapes
 import signed
 from chains import payload_of
 from goals import MOST_DOUBLED, MOST_MEGABYTES, MOST_SECONDS, MOST_TO_CHECKS
 from library import PAYLOAD
+from manifests import MOST_ARTIFACTS, artifact, manifest, report
 from measure import megabytes, written
 from roots import keys, with_anchors
-from shapes import numbered
+from shapes import filled, numbered
 
 import fixture
 from fixture import certificate, compact, leaf
 from x509_paths import inter
 
 ORIGIN = "fixture.log"
-MOST_ARTIFACTS = 256  # of a manifest, and as many bundles
-
-
-def artifact(made, place, **changes):
-    """An artifact of this request's digest and bundle, which one log body is enough for."""
-    bundles = [compact(made.bundle(), canonical=True)]
-    named = {"name": f"artifact-{place}", "digest": made.digest, "root": "root", "policy": "policy"}
-    return {**named, "bundles": bundles, "rule": {"least": 1}, **changes}
-
-
-def manifest(made, artifacts, rows, **changes):
-    """A manifest whose trusted root and policy are this request's."""
-    members = {"now": made.now, "roots": {"root": compact(made.trusted_root())}, "policies": {"policy": made.policy},
-               "accepted": rows, "artifacts": artifacts, **changes}
-    return compact(members).encode()
-
-
-def lines(count):
-    """What is written of so many artifacts, each of which has a bundle and is admitted."""
-    each = "".join(f"artifact artifact-{place} admit\nbundle 0 verified 2 5\n" for place in range(count))
-    return each + f"admitted {count} of {count}\n"
+VERIFIED = "verified 2 5"
 
 
 def requests(count, size):
@@ -49,13 +32,13 @@ def each_once(rows):
 def many(made):
     """The manifest of the artifacts of these requests."""
     rows = each_once(row for one in made for row in one.accepted())
-    return manifest(made[0], [artifact(one, place) for place, one in enumerate(made)], rows), lines(len(made))
+    return manifest(made[0], [artifact(one, place) for place, one in enumerate(made)], rows), report(VERIFIED, len(made))
 
 
 def of_one(**changes):
     """The manifest of one artifact, with members changed, which admits it."""
     made = fixture.Request()
-    return manifest(made, [artifact(made, 0)], made.accepted(), **changes), lines(1)
+    return manifest(made, [artifact(made, 0)], made.accepted(), **changes), report(VERIFIED, 1)
 
 
 def policies(count):
@@ -83,7 +66,7 @@ def origins(count):
     made = fixture.Request()
     others = [{"origin": "o" * (count + place)} for place in range(62)]
     rule = {"any": [*others, {"origin": ORIGIN}]}
-    return manifest(made, [artifact(made, 0, rule=rule)], made.accepted()), lines(1)
+    return manifest(made, [artifact(made, 0, rule=rule)], made.accepted()), report(VERIFIED, 1)
 
 
 def over_intermediates(anchor_keys, accepted_keys):
@@ -95,8 +78,7 @@ def over_intermediates(anchor_keys, accepted_keys):
     signed_by_last, above = made.accepted()[0], made.accepted()[-1]
     rows = [{**above, "message": shapes.coded(fixture.tbs(signers[place % 16])), "key": shapes.coded(key)} for place, key in enumerate(accepted_keys)]
     artifacts = [artifact(made, place) for place in range(MOST_ARTIFACTS)]
-    each = "".join(f"artifact artifact-{place} deny none\nbundle 0 refused issuer\n" for place in range(MOST_ARTIFACTS))
-    return manifest(made, artifacts, [signed_by_last, *rows], roots={"root": compact(root)}), each + f"admitted 0 of {MOST_ARTIFACTS}\n"
+    return manifest(made, artifacts, [signed_by_last, *rows], roots={"root": compact(root)}), report("refused issuer")
 
 
 def anchors_over_intermediates(count):
@@ -134,7 +116,8 @@ def checks_alone(bench, made):
 
 def gates(bench):
     """Manifests of `gate`: 256 artifacts of one trusted root, each with a bundle of its own of 10 KB, beside a process that reads the
-    accepted signatures and the trusted root once and reads and verifies these bundles alone, and beside as many processes of `verify`; and the lists of a manifest.
+    accepted signatures and the trusted root once and reads and verifies these bundles alone, and beside as many processes of `verify`; the lists of a manifest;
+    and 256 bundles beside a policy of many rules, or under a trust anchor of a long key.
     The last column is the time to that over half as many."""
     table = bench.table(gates, "manifest", "bytes", "ms", "MB", "to the bundles alone", "to processes", "to half")
     words = [bench.program, "gate"]
@@ -162,4 +145,6 @@ def gates(bench):
     for name, make in LISTS:
         count = count_of(make, bench.most)
         row(name, make(count // 2), make(count))
+    for name, make, said in (*gate_policies.MANIFESTS, *gate_roots.GATES):
+        row(name, *((filled(make, most), said) for most in (bench.most // 2, bench.most)))
 

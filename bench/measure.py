@@ -136,7 +136,7 @@ PR_SET_CHILD_SUBREAPER = 36
 
 
 def megabytes(words, path, status=0):
-    """The peak memory of a command over a file. A process's peak counts what it was before it became the command: here
+    """The peak memory of a command over a file, in 10^6 bytes. A process's peak counts what it was before it became the command: here
     a copy of `sh`, which is smaller than any command (of `true` it tells one megabyte)."""
     ctypes.CDLL(None).prctl(PR_SET_CHILD_SUBREAPER, 1, 0, 0, 0)
     shell = subprocess.Popen(["sh", "-c", LATER, path, *words], stdin=subprocess.PIPE, stdout=subprocess.PIPE)
@@ -148,7 +148,7 @@ def megabytes(words, path, status=0):
     shell.stdout.close()
     _, ended, used = os.wait4(process, 0)
     expect(words, path, os.waitstatus_to_exitcode(ended), status)
-    return used.ru_maxrss / 1024
+    return used.ru_maxrss * 1024 / 10**6
 
 
 def built(crate, named=None):

@@ -1,4 +1,5 @@
 """Requests of `log`, of `consistency` and of `audit` with the log's own entries, and what hashing those takes alone."""
+import functools
 import hashlib
 import random
 import time
@@ -8,10 +9,14 @@ from shapes import EXAMPLE, coded, request, row
 KEY_HINT_AND_SIGNATURE = EXAMPLE["checkpoint"].split("\n\n")[1]
 
 
+# Equal neighbours are hashed once.
+
+@functools.lru_cache(maxsize=4)
 def leaf(entry):
     return hashlib.sha256(b"\0" + entry).digest()
 
 
+@functools.lru_cache(maxsize=4)
 def node(left, right):
     return hashlib.sha256(b"\1" + left + right).digest()
 
@@ -19,7 +24,11 @@ def node(left, right):
 def levels(entries):
     """The hashes of a tree, level by level, from the leaves to the root (RFC 6962 section 2.1). A node without a
     neighbour stands in the next level as it is."""
-    level = [leaf(entry) for entry in entries]
+    return levels_above([leaf(entry) for entry in entries])
+
+
+def levels_above(level):
+    """The levels from this one on."""
     while len(level) > 1:
         yield level
         pairs = zip(level[::2], level[1::2])
@@ -27,14 +36,18 @@ def levels(entries):
     yield level
 
 
-def with_list(entries, more, root, hashes, **members):
-    """A request with these hashes of a log of this root, with the log's entries and more."""
-    note = f"log.example\n{len(entries)}\n{coded(root)}\n"
+def with_root(size, root, hashes, **members):
+    """A request with these hashes of a log of this size and root."""
+    note = f"log.example\n{size}\n{coded(root)}\n"
     return request(
-        treeSize=len(entries), rootHash=root.hex(), hashes=[each.hex() for each in hashes],
-        checkpoint=f"{note}\n{KEY_HINT_AND_SIGNATURE}", accepted=[row(note.encode())],
-        entries=[coded(entry) for entry in (*entries, *more)], **members,
+        treeSize=size, rootHash=root.hex(), hashes=[each.hex() for each in hashes],
+        checkpoint=f"{note}\n{KEY_HINT_AND_SIGNATURE}", accepted=[row(note.encode())], **members,
     )
+
+
+def with_list(entries, more, root, hashes, **members):
+    """The same with the log's entries and more."""
+    return with_root(len(entries), root, hashes, entries=[coded(entry) for entry in (*entries, *more)], **members)
 
 
 def of_log(entries, more=()):
@@ -53,6 +66,18 @@ def of_growth(entries, more=()):
         old = node(left, old)
     hashes = [lefts[0], below[0][-1], *lefts[1:]]
     return with_list(entries, more, root, hashes, oldSize=len(entries) - 1, oldRoot=old.hex())
+
+
+def of_blocks(most):
+    """A request of `log` of nearly so many bytes whose entries are 8,192 ones again and again, of which every second has three bytes, and how many
+    there are. It takes as long as if all of three bytes were different, and is made sooner."""
+    block = [b"" if place % 2 else place.to_bytes(3, "big") for place in range(2**13)]
+    text = ",".join(f'"{coded(entry)}"' for entry in block)
+    times = (most - 4096) // (len(text) + 1)
+    *lower, [top] = levels(block)
+    *upper, [root] = levels_above([top] * times)
+    made = with_root(len(block) * times, root, [level[1] for level in (*lower, *upper)], entry=coded(block[0]), entries="@")
+    return made.replace(b'"@"', b"[" + ",".join([text] * times).encode() + b"]"), len(block) * times
 
 
 def below(size):
@@ -109,7 +134,7 @@ def filling(most, period, entry):
 
 
 def of_a_byte(most):
-    """One entry of eight has a byte, the others none, in an order that is none."""
+    """One entry of eight has a byte, the others none, in no order."""
     made = filling(most, 8, lambda place: b"\0")
     random.Random(most).shuffle(made)
     return made
@@ -120,10 +145,15 @@ def of_three_bytes(most):
     return filling(most, 2, lambda place: place.to_bytes(3, "big"))
 
 
-# Small entries that cost most to hash: few of them follow an equal one.
+def of_no_byte(most):
+    return [b""] * ((most - 4096) // 6 * 2)
+
+
+# Small entries that cost most to read or to hash: in the first two few of them follow an equal one.
 FILLING = (
     ("one of eight has a byte, in no order", of_a_byte),
     ("every second has three bytes", of_three_bytes),
+    ("all are empty", of_no_byte),
 )
 
 

@@ -18,7 +18,7 @@ def with_anchors(made, anchors):
 
 
 def keys(count):
-    """So many keys of P-256 whose points share a prefix, in an order that is none."""
+    """So many keys of P-256 whose points share a prefix, in no order."""
     prefix = fixture.key(9)[:-4]
     return list(numbered(prefix, count))
 

@@ -24,7 +24,7 @@ def coded(data):
 
 
 def numbered(prefix, count):
-    """So many byte strings that share a prefix, in an order that is none, each once."""
+    """So many byte strings that share a prefix, in no order, each once."""
     places = list(range(count))
     random.Random(count).shuffle(places)
     return (prefix + place.to_bytes(4, "big") for place in places)
@@ -168,7 +168,7 @@ def repeated(item):
 
 
 def members(prefix):
-    """The object of so many members whose names share a prefix, in an order that is none."""
+    """The object of so many members whose names share a prefix, in no order."""
     def make(count):
         names = (prefix + str(int.from_bytes(place, "big")) for place in numbered(b"", count))
         return ("{" + ",".join(f'"{name}":1' for name in names) + "}").encode()
@@ -213,7 +213,7 @@ def shuffled_names(count):
 
 
 def alike_names(count):
-    """Names in an order that is none, which agree in their first eight bytes."""
+    """Names in no order, which agree in their first eight bytes."""
     return object_of(chosen(count, "prefixed"))
 
 
@@ -228,7 +228,7 @@ def rising_twice(count):
 
 
 def equal_names(count):
-    """Some two hundred names of one letter or two, each many times, in an order that is none."""
+    """Some two hundred names of one letter or two, each many times, in no order."""
     chance = random.Random(count)
     return object_of(letters(chance.randrange(100), 1 + chance.randrange(2)) for _ in range(count))
 
@@ -308,11 +308,11 @@ def statement_of(member, items):
     return lambda count: statement(**{member: items(count).decode()})
 
 
-def many_subjects():
-    """A statement of 1,024 subjects of 32 digests each, but the first of one; of the 32 two can be compared."""
+def many_subjects(count=1024):
+    """A statement of so many subjects of 32 digests each, but the first of one; of the 32 two can be compared."""
     others = "".join(f',"other{place}":"' + "a5" * 32 + '"' for place in range(30))
     digests = '{"sha256":"' + "a5" * 32 + '","sha512":"' + "a5" * 64 + '"' + others + "}"
-    return statement(subjects=(',{"digest":' + digests + "}") * 1023)
+    return statement(subjects=(',{"digest":' + digests + "}") * (count - 1))
 
 
 # Certificates

@@ -4,11 +4,13 @@ import sys
 
 import chains
 import explained
+import long_keys
 import measure
 import own_entries
 import roots
 import shapes
 import signed
+from asked import questions
 from bundles_at_once import bundles_at_once
 from gates import gates
 from goals import (
@@ -36,6 +38,7 @@ LOG_REQUESTS = {
         ("rows by message", shapes.rows_by_message),
         ("signatures and rows", shapes.signatures_and_rows),
         ("signatures, a long note", shapes.signatures_of_a_long_note),
+        ("signatures, a long key", long_keys.signatures),
         ("equal signatures, a long note", shapes.equal_signatures_of_a_long_note),
         *((f"ignored: {name}", shapes.ignored(shapes.repeated(item))) for name, item in shapes.worst(above=1)),
         ("ignored: shuffled names", shapes.ignored(shapes.shuffled_names)),
@@ -109,8 +112,9 @@ def log(bench):
 
 
 def verify(bench):
-    """Requests of `verify`. The milliseconds are those beyond a process that reads no request, which the first row has;
-    the last column is their ratio to those over a request whose list has half as many items."""
+    """Requests of `verify`, and of `questions verify` and `explain verify` the slowest of a million bytes. The milliseconds
+    are those beyond a process that reads no request, which the first row has; the last column is their ratio to those
+    over a request whose list has half as many items."""
     command = [bench.program, "verify"]
     start = bench.seconds(bench.kept(b""), [bench.program, "--version"])[0]
     table = bench.table(verify, "request", "reply", "bytes", "ms", "MB", "to half")
@@ -138,45 +142,37 @@ def verify(bench):
     for reply, kinds in chains.REQUESTS.items():
         for name, make in kinds:
             row(name, filled(make, bench.most), reply, filled(make, bench.most // 2))
-    slowest_of_a_million(bench, table, command, start)
+    for each in OF_BUNDLES:
+        slowest_of_a_million(bench, table, each, start)
     row("too long, refused", signed.example() + b" " * 2**25, "refused request")
 
 
+# The commands over one bundle, what their requests are, how they are made, and the reply where it is stated.
+OF_VERIFY = [(name, make, reply) for reply, kinds in chains.REQUESTS.items() for name, make in kinds]
+OF_BUNDLES = {
+    "verify": OF_VERIFY,
+    "questions verify": [(name, make, None) for name, make in chains.QUESTIONS],
+    "explain verify": [*OF_VERIFY, *((name, make, None) for name, make in explained.OWN["verify"])],
+}
+
+
 def slowest_of_a_million(bench, table, command, start):
-    """The row of the request of a million bytes that takes longest beyond the start."""
+    """The row of the request of a million bytes over which a command takes longest beyond the start."""
+    words = [bench.program, *command.split()]
+
     def took(text, reply):
-        path, status = bench.kept(text), status_of(reply)
-        measure.expect(command, path, written(command, path, status), reply)
-        return bench.seconds(path, command, status=status, slow=True)[0] - start
-
-    million = [(name, filled(make, 10**6), reply) for reply, kinds in chains.REQUESTS.items() for name, make in kinds]
-    slowest, place = max((took(*each[1:]), place) for place, each in enumerate(million))
-    name, text, reply = million[place]
-    table.row(f"the slowest of a million bytes: {name}", reply, len(text), slowest * 1000, None, None)
-    bench.goal(f"verify, {name}, a million bytes, seconds", slowest, MOST_SECONDS_OF_A_MILLION)
-
-
-def questions(bench):
-    """Requests of `questions verify`, the worst of those of `verify`. With the status 2 request and list would have
-    more than 2^24 bytes. The last column is the time to that over a request of half the size."""
-    command = [bench.program, "questions", "verify"]
-    table = bench.table(questions, "request", "status", "bytes", "ms", "MB", "to half")
-
-    def measured(name, text):
         path = bench.kept(text)
-        status = measure.status_over(command, path)
-        if status not in (0, 2):
-            measure.fail(f"questions verify over {name}: {status}")
-        [took], peak = bench.seconds(path, command, status=status), megabytes(command, path, status)
-        bench.goal(f"questions, {name}, {len(text)} bytes, MB", peak, MOST_MEGABYTES)
-        bench.goal(f"questions, {name}, {len(text)} bytes, seconds", took, MOST_SECONDS)
-        return status, took, peak
+        status = status_of(reply) if reply else measure.status_over(words, path)
+        if reply:
+            measure.expect(words, path, written(words, path, status).split("\n", 1)[0], reply)
+        seconds = bench.seconds(path, words, status=status, slow=True)[0] - start
+        path.unlink()
+        return seconds
 
-    for name, make in chains.QUESTIONS:
-        text, half = filled(make, bench.most), filled(make, bench.most // 2)
-        (status, took, peak), (_, first, _) = measured(name, text), measured(name, half)
-        table.row(name, status, len(text), took * 1000, round(peak), took / first)
-        bench.goal(f"questions, {name}, time to that at half", took / first, MOST_DOUBLED)
+    made = ((name, filled(make, 10**6), reply) for name, make, reply in OF_BUNDLES[command])
+    slowest, name, size, reply = max((took(text, reply), name, len(text), reply or "") for name, text, reply in made)
+    table.row(f"{command}, the slowest of a million bytes: {name}", reply, size, slowest * 1000, None, None)
+    bench.goal(f"{command}, {name}, a million bytes, seconds", slowest, MOST_SECONDS_OF_A_MILLION)
 
 
 # The commands that take the log's own entries: how their requests are made, and the reply except for its second line.
@@ -268,10 +264,11 @@ def audit_lists(bench):
 
 def explanations(bench):
     """Requests of `explain`: those of the commands' own tables, and those of which much is shown or looked for, all of
-    the largest size. The last column is the time to that of the command without `explain`."""
-    table = bench.table(explanations, "request", "status", "bytes", "ms", "MB", "to the command")
-    for command, title, text in explained.requests(bench, {"log": LOG_REQUESTS, "audit": AUDIT_REQUESTS}):
-        explained.measured(bench, table, command, title, text)
+    the largest size. The last columns are the time to that of the command without `explain`, and to that over a request
+    of half the size."""
+    table = bench.table(explanations, "request", "status", "bytes", "ms", "MB", "to the command", "to half")
+    for request in explained.requests(bench, {"log": LOG_REQUESTS, "audit": AUDIT_REQUESTS}):
+        explained.measured(bench, table, *request)
 
 
 def demo(bench):
@@ -385,36 +382,40 @@ BUNDLES = (
 
 
 def bundles(bench):
-    """Bundles of the most decoded parts, of the largest size."""
-    rows = ((name, filled(make, bench.most)) for name, make in BUNDLES)
-    read(bench, bench.table(bundles, "bundle", "bytes", "read ms", "MB"), rows, ["bundle"])
+    """Bundles of the most decoded parts, of the largest size. The last column is the time to that over a bundle of half the size."""
+    rows = ((name, filled(make, bench.most // 2), filled(make, bench.most)) for name, make in BUNDLES)
+    read(bench, bench.table(bundles, "bundle", "bytes", "read ms", "MB", "to half"), rows, ["bundle"])
 
 
 def statements(bench):
     """Payloads as large as base64 in a text of the largest size can carry, read as statements by
-    `InTotoStatementV1::from_json`, and for their digests alone, as the checks of a bundle do."""
+    `InTotoStatementV1::from_json`, and for their digests alone, as the checks of a bundle do. Beside each is the time to
+    that over a payload of half the size, or of half as many subjects."""
     most = bench.most // 4 * 3
     made = (
-        (f"{member}: {name}", filled(shapes.statement_of(member, shapes.repeated(item)), most))
+        (f"{member}: {name}", *(filled(shapes.statement_of(member, shapes.repeated(item)), size) for size in (most // 2, most)))
         for member, above in (("predicate", 1), ("annotations", 3))
         for name, item in shapes.worst(above)
     )
-    rows = itertools.chain(made, [("1,024 subjects", shapes.many_subjects())])
-    table = bench.table(statements, "payload", "bytes", "statement ms", "MB", "digests ms", "MB")
+    rows = itertools.chain(made, [("1,024 subjects", shapes.many_subjects(512), shapes.many_subjects(1024))])
+    table = bench.table(statements, "payload", "bytes", "statement ms", "MB", "to half", "digests ms", "MB", "to half")
     read(bench, table, rows, ["statement", "digests"], MOST_MEGABYTES_OF_STATEMENT)
 
 
 def read(bench, table, rows, words, most=MOST_MEGABYTES):
-    """Adds for each text how long the reader takes by each word, and how much memory."""
+    """Adds for each text how long the reader takes by each word, how much memory, and how many times as long as over half of it."""
     commands = [[bench.reader, word] for word in words]
     start = bench.seconds(bench.kept(b"{}"), [bench.reader, "read"])[0]
-    for name, text in rows:
+    for name, half, text in rows:
         path = bench.kept(text)
-        times, peaks = bench.seconds(path, *commands), [megabytes(command, path) for command in commands]
-        cells = (cell for took, peak in zip(times, peaks) for cell in ((took - start) * 1000, round(peak)))
+        firsts, times = bench.seconds(bench.kept(half), *commands), bench.seconds(path, *commands)
+        peaks, doubled = [megabytes(command, path) for command in commands], [(took - start) / (first - start) for first, took in zip(firsts, times)]
+        cells = (cell for took, peak, ratio in zip(times, peaks, doubled) for cell in ((took - start) * 1000, round(peak), ratio))
         table.row(name, len(text), *cells)
         bench.goal(f"{words[0]}, {name}, MB", max(peaks), most)
         bench.goal(f"{words[0]}, {name}, seconds", max(times), MOST_SECONDS)
+        for word, ratio in zip(words, doubled):
+            bench.goal(f"{word}, {name}, time to that at half", ratio, MOST_DOUBLED)
 
 
 def artifacts(bench):

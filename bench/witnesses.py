@@ -18,12 +18,12 @@ def request(**members):
 
 
 def names(count):
-    """The names of so many origins, in an order that is none."""
+    """The names of so many origins, in no order."""
     return [f"log {name.hex()}" for name in numbered(b"", count)]
 
 
-def kept(name, size=0, root=EMPTY):
-    return "".join(line + "\n" for line in (name, SCHEME, KEY, str(size), root))
+def kept(name, size=0, root=EMPTY, key=KEY):
+    return "".join(line + "\n" for line in (name, SCHEME, key, str(size), root))
 
 
 def note(name):
@@ -65,13 +65,22 @@ def signatures(count):
     return one_update(checkpoint=shapes.NOTE + "\n" + "\n".join(lines)), "refused note-key\n\n" + kept("log.example"), 1
 
 
+def of_a_long_key(count):
+    """As many updates as there may be of one note under a key of so many bytes, of which another signature is accepted."""
+    key = coded(b"k" * count)
+    origin = {"origin": "log.example", "scheme": SCHEME, "key": key}
+    update = {"checkpoint": shapes.NOTE + "\n" + signature_line(b"sih"), "oldSize": 0}
+    said = "refused note-key\n" * MOST_UPDATES + "\n" + kept("log.example", key=key)
+    return request(origins=[origin], updates=[update] * MOST_UPDATES, accepted=[shapes.row(key=key)]), said, 1
+
+
 def too_many(count):
     return request(updates=[{"checkpoint": "", "oldSize": 0}] * (count + MOST_UPDATES)), "refused request\n", 2
 
 
 # The lists: each is made at half of the largest size, and at the whole; and the updates that a request may have.
 LISTS = (("origins in the state", states), ("origins that are added", origins), ("hashes of an update", hashes),
-         ("signatures of an update", signatures), ("more updates than there may be", too_many))
+         ("signatures of an update", signatures), ("updates under a long key", of_a_long_key), ("more updates than there may be", too_many))
 
 
 def rows(bench):
