@@ -11,6 +11,7 @@ from test_common import ADAPTER, HERE, file_of, run, words_of
 
 LINKS = os.path.join(HERE, "..", "..", "docs", "LINKS.md")
 README = os.path.join(HERE, "..", "..", "README.md")
+DECISIONS = os.path.join(HERE, "..", "..", "docs", "DECISIONS.md")
 REQUESTS = os.path.join(HERE, "..", "..", "docs", "REQUESTS.md")
 ENDED = {"start": "2023-01-01T00:00:00Z", "end": "2023-12-13T23:59:59Z"}  # a second before the time of the runs
 BEGUN = {"start": "2023-12-13T12:00:00Z"}  # after the entry's time
@@ -157,16 +158,29 @@ NO_PURPOSE = fixture.extensions(extension(KEY_USAGE, der(BIT_STRING, b"\x07\x80"
 EXPIRED, COMING = fixture.validity("200101000000Z", "210101000000Z"), fixture.validity("400101000000Z", "410101000000Z")
 BOTH_ISSUERS = extension(fixture.FULCIO["issuer"], ISSUER.encode()) + NEWER_ISSUER
 
-# What is verified, though a reader may think that it is tested.
+OF_ANCHOR = ("of a trust anchor its own validity, its being a CA and its own signature are not tested",
+             "Its own validity, basic constraints, key usage and signature are not tested")
+
+# By the first column of the table of what no link tests, whose bundles are verified: the parts of `Signed`, what is made of its
+# files, and the words of README.md and of DECISIONS.md.
 UNTESTED = {
-    "the authority's validFor ended before the certificate": ({}, ranged("certificateAuthorities", PAST)),
-    "the anchor's own validity is past": (dict(anchor=dict(validity=EXPIRED)), None),
-    "the anchor's own validity is to come": (dict(anchor=dict(validity=COMING)), None),
-    "the anchor is not a CA": (dict(anchor=dict(extensions=NOT_CA)), None),
-    "the anchor may not sign certificates": (dict(anchor=dict(extensions=NO_PURPOSE)), None),
-    "the anchor's own signature is broken": (dict(anchor=dict(signature=der(BIT_STRING, b"\0", b"broken"))), None),
-    "the log key's range begins after the entry": ({}, ranged("tlogs", BEGUN)),
-    "the Certificate Transparency log's range begins after the SCT": ({}, ranged("ctlogs", BEGUN)),
+    "the certificate was issued after its authority's `validFor` ended":
+        ({}, ranged("certificateAuthorities", PAST),
+         "an authority whose `validFor` has ended still counts", "a certificate issued after the end passes"),
+    "the trust anchor's own validity has ended": (dict(anchor=dict(validity=EXPIRED)), None, *OF_ANCHOR),
+    "the trust anchor's own validity has not begun": (dict(anchor=dict(validity=COMING)), None, *OF_ANCHOR),
+    "the trust anchor is not a CA by its basic constraints": (dict(anchor=dict(extensions=NOT_CA)), None, *OF_ANCHOR),
+    "the trust anchor may not sign certificates by its key usage": (dict(anchor=dict(extensions=NO_PURPOSE)), None, *OF_ANCHOR),
+    "the trust anchor's own signature is broken":
+        (dict(anchor=dict(signature=der(BIT_STRING, b"\0", b"broken"))), None, *OF_ANCHOR),
+    "the range of the log's key begins after the entry":
+        ({}, ranged("tlogs", BEGUN), "compared with *now*, not with the time of the entry", "a key whose range began after the entry passes"),
+    "the range of the key of the Certificate Transparency log begins after the SCT":
+        ({}, ranged("ctlogs", BEGUN), "the range of a log's key is compared with *now*", "not with the time of the entry or of the SCT"),
+}
+
+# Bundles that are verified, though they have a property that is near to one of REFUSED.
+VERIFIED_TOO = {
     "a bundle as the one line of its file": ({}, "line"),
     "the newer issuer beside the older": (dict(issued=BOTH_ISSUERS), None),
 }
@@ -202,9 +216,19 @@ def check_refused(results, program):
     results.compare("the table of LINKS.md", table, {title: f"`{link}`" for title, (link, *_) in REFUSED.items()})
 
 
+def part_of(path, first, last):
+    """What a document has between two texts, on one line."""
+    with open(path, encoding="utf-8") as file:
+        return " ".join(file.read().split(first, 1)[1].split(last, 1)[0].split())
+
+
 def check_untested(results, program):
-    for title, (parts, change) in UNTESTED.items():
+    for title, (parts, change, *_) in {**UNTESTED, **VERIFIED_TOO}.items():
         results.compare(title, reply_to(program, parts, change), (0, "verified 2 5\n", ""))
+    results.compare("what no link tests, by LINKS.md", [row[0] for row in rows_of(LINKS, "What no link tests")], list(UNTESTED))
+    readme, decisions = part_of(README, "What it does not do:", "\n"), part_of(DECISIONS, "## What a trusted root vouches for\n", "\n## ")
+    for title, (_, _, *said) in UNTESTED.items():
+        results.compare(f"{title}, by README.md and DECISIONS.md", [text in part for text, part in zip(said, (readme, decisions))], [True] * 2)
 
 
 def check_other_files(results, program):
@@ -246,15 +270,15 @@ def check_rules(results, program):
 # What the adapters and README.md say is trusted.
 
 TRUSTED = ["is_genuine", "sha256:HEX", "sha512:HEX", "standard input", "all hold which the words name", "what they say of the workflow",
-           "--now", "several artifacts", "the artifact whose reply", "--sigverify", "PATH", "SIGVERIFY_BUILD=quick", "up to date",
+           "--now", "are those of the files", "the status is 0 only of a reply", "several artifacts", "the artifact whose reply",
+           "`env -S`", "/bin/sh", "40, 41 and 42 of Python", "3 of every other end", "--sigverify", "PATH", "SIGVERIFY_BUILD=quick", "up to date",
            "pattern", "words of explanations", "adapters/python/sigverify.py", "package cryptography"]
 
 
 def check_trusted(results, _):
     """The list at the head of sigverify-bundle and README.md name the same."""
     for path, first, last in (ADAPTER, "all that is trusted of it:", '"""'), (README, "Trusted of `adapters/openssl` are:", "\n"):
-        with open(path, encoding="utf-8") as file:
-            listed = " ".join(file.read().split(first, 1)[1].split(last, 1)[0].split())
+        listed = part_of(path, first, last)
         results.compare(f"what is trusted, by {path}", [each for each in TRUSTED if each not in listed], [])
 
 
