@@ -209,7 +209,7 @@ BROKEN = "log.example\n1\nno hash\n\n\u2014 log.example AAAAAXNpZw==\n"
 
 
 def first_rows():
-    """An empty head and one of one entry, in order and not; an index that is none."""
+    """An empty head and one of one entry, in order and not; an index that no entry has."""
     at = {"head": 1, "index": 0, "entry": "TDEyMzQ1Ng=="}
     yield request([Y, X], [at], LOG)
     yield request([X, Y])

@@ -31,7 +31,7 @@ I64 = (-2**63 - 1, -2**63, -1, 0, 1, 2**63 - 1, 2**63, 2**64 - 1, 2**64, -2**64)
 
 
 class Refused(Exception):
-    """Why a text is none of its kind."""
+    """Why a text is not of its kind."""
 
 
 def row(line, answer):

@@ -18,7 +18,7 @@ TABLE = Table("rekor_cases")
 
 
 class Refused(Exception):
-    """Why a model is none, or does not hold."""
+    """Why a text is not a model, or the model does not hold."""
 
 
 def say(first, *others):

@@ -134,7 +134,7 @@ def group_fault(before, origin, scheme, key, size, root):
 
 
 def read(text):
-    """The witness of a text, or why it is none."""
+    """The witness of a text, or why it is not one."""
     lines = text.split("\n")
     if lines.pop() != "" or len(lines) % 5:
         return "Lines", None
