@@ -48,7 +48,8 @@ pub fn explained_reply(alloc: Global, what: Explained, request: &[u8]) -> Result
     explain(alloc, what, request)
 }
 
-/// The explained reply of a command to a request's text.
+/// The explained reply of a command to a request's text. No command is a part of this function when it is compiled: a caller
+/// of the library has 128 KB of stack, of which a text that nests to 127 takes half, and the others' frames would be there too.
 fn explain(alloc: Global, what: Explained, request: &[u8]) -> Result<Reply, OutOfMemory>
     ensures { IfOk result (IsExplained what request.now) }
 {
@@ -71,6 +72,7 @@ pub fn long_reply(alloc: Global) -> Result<Reply, OutOfMemory>
 }
 
 /// The explained reply of `audit`.
+#[inline(never)]
 fn explain_audit(alloc: Global, request: &[u8]) -> Result<Reply, OutOfMemory>
     ensures { IfOk result (IsExplained Audit request.now) }
 {
@@ -80,6 +82,7 @@ fn explain_audit(alloc: Global, request: &[u8]) -> Result<Reply, OutOfMemory>
 }
 
 /// The explained reply of `witness`.
+#[inline(never)]
 fn explain_witness(alloc: Global, request: &[u8]) -> Result<Reply, OutOfMemory>
     ensures { IfOk result (IsExplained Witness request.now) }
 {
@@ -89,6 +92,7 @@ fn explain_witness(alloc: Global, request: &[u8]) -> Result<Reply, OutOfMemory>
 }
 
 /// The explained reply of `gate`.
+#[inline(never)]
 fn explain_gate(alloc: Global, request: &[u8]) -> Result<Reply, OutOfMemory>
     ensures { IfOk result (IsExplained Gate request.now) }
 {

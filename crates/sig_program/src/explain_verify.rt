@@ -27,6 +27,7 @@ use std::alloc::Global;
 /// Returns the reply of `verify` to a request's text, and its explanation as the last line: what is wrong with a text that
 /// is not a request; of a request the first link of the chain of trust that fails with what it compares, or what was
 /// verified. The chain of trust is tested once. Fails only if out of memory.
+#[inline(never)]
 pub fn explain_verify(alloc: Global, text: &[u8]) -> Result<Reply, OutOfMemory>
     ensures { IfOk result (IsExplained Verify text.now) }
 {
