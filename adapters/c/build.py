@@ -52,7 +52,7 @@ def prove(home, on):
     would prove all of them again."""
     libraries = below(on, CRATE)
     if not all(is_current(rlib(name).parent, on, name) for name in libraries):
-        print("adapters/c/build.py: proving what changed; a first build takes about half an hour", file=sys.stderr)
+        print("adapters/c/build.py: proving what changed; a first build takes some 40 minutes", file=sys.stderr)
         ran([TOP / "tools/libraries", CRATE, TOP / "tools/rt_once", "lib"])
         return
     of_kit = [name for name in dict.fromkeys(["std", *on[CRATE]]) if name not in on]
