@@ -1,2 +1,1 @@
 pub mod AnchorPlaces
-pub mod RuleRefusals

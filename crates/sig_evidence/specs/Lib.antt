@@ -5,5 +5,4 @@ pub mod Checks
 pub mod Fault
 pub mod Issuer
 pub mod Logs
-pub mod Rules
 pub mod Trees

@@ -1,5 +1,5 @@
-//! What the links of the chain of trust compare, as members of JSON: of a bundle, a trusted root, a policy and the
-//! accepted signatures. An explanation shows them beside what failed, or of what was verified.
+//! What the links of the chain of trust compare, as members of JSON: of a bundle, a trusted root and the accepted
+//! signatures. An explanation shows them beside what failed, or of what was verified.
 //!
 //! ```text
 //! {"integratedTime":{"seconds":"1700000000","utc":"2023-11-14T22:13:20Z"},
@@ -7,7 +7,7 @@
 //! ```
 //!
 //! The layer above uses one fact of each call: it returns the object with members that a definition gives of what it is
-//! handed, `times_rows` or `policy_tree` for instance, unless memory runs out. Lists are shown to a stated length, beside
+//! handed, `times_rows` or `sct_rows` for instance, unless memory runs out. Lists are shown to a stated length, beside
 //! which a member says how long they are.
 #![tactic(auto)]
 
@@ -18,7 +18,6 @@ mod checks;
 mod fault;
 mod issuer;
 mod logs;
-mod rules;
 mod sct;
 mod trees;
 
@@ -29,6 +28,5 @@ pub use checks::{MOST_DIGESTS, with_subjects, with_times, with_validity};
 pub use fault::with_document_fault;
 pub use issuer::{MOST_ANCHORS, with_issuer};
 pub use logs::{MOST_LOGS, logs_document, with_log_id};
-pub use rules::{MOST_RULES, with_policy_rules};
 pub use sct::with_sct;
 pub use trees::{note_document, with_proof, with_trees};

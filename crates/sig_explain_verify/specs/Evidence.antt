@@ -26,7 +26,7 @@ use Rattle.sig_evidence.specs.Checks.{subject_rows, times_rows}
 use Rattle.sig_evidence.specs.Fault.{fault_rows}
 use Rattle.sig_evidence.specs.Issuer.{issuer_rows}
 use Rattle.sig_evidence.specs.Logs.{log_id_rows, logs_tree, named_sct, sct_rows}
-use Rattle.sig_evidence.specs.Rules.{policy_tree}
+use Rattle.sig_explanation.specs.Rules.{policy_tree}
 use Rattle.sig_evidence.specs.Trees.{trees_rows}
 use Rattle.sig_explain_verify.specs.Inputs.{Inputs}
 use Rattle.sig_explain_verify.specs.Parts.{AreAuthorities, IsCheckedIn, certificate_key, checkpoint_of, entry_in}

@@ -1,7 +1,7 @@
 -- *Refused tree*: what is shown of a refusal: the error, and what its link compares.
 use Rattle.std.specs.Prelude.{◌≡◌, ℕ, List, [], ◌∷◌, ◌++◌, codes, length}
 use Rattle.sig_json.specs.Writing.{TreeMember, members_into, object_of}
-use Rattle.sig_evidence.specs.Rules.{rules_of}
+use Rattle.sig_explanation.specs.Rules.{rules_of}
 use Rattle.sig_json.specs.Data.{Data, Members}
 use Rattle.sig_policy.specs.declared.request.RequestPolicy.{RequestPolicy}
 use Rattle.sig_policy.specs.declared.request.RequestPolicy.TheVariants.{All, Any}

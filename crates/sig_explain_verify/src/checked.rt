@@ -15,9 +15,9 @@ use sig_bundle::ArtifactDigest;
 use sig_certificate::Certificate;
 use sig_checked_bundle::{CheckedBundle, CheckedContent};
 use sig_evidence::{
-    with_accepted, with_authorities, with_body, with_issuer, with_policy_rules, with_sct,
-    with_subjects, with_times,
+    with_accepted, with_authorities, with_body, with_issuer, with_sct, with_subjects, with_times,
 };
+use sig_explanation::with_policy_rules;
 use sig_json::Object;
 use sig_shown::with_time;
 use sig_verify::Link;

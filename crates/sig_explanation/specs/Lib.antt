@@ -2,3 +2,4 @@ pub mod Cause
 pub mod KeptRows
 pub mod Names
 pub mod Refusal
+pub mod Rules

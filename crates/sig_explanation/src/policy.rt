@@ -18,7 +18,7 @@ pub const MOST_REFUSALS: usize = 64;
 
 /// The object with the refusal of a policy: `cause`, a list of its variant's name, and what it keeps, without the
 /// refusals that it holds. Fails only if out of memory.
-pub fn with_refused(
+pub(crate) fn with_refused(
     object: Object,
     alloc: Global,
     error: &PolicyError,

@@ -4,7 +4,7 @@ use Rattle.sig_json.specs.Writing.{TreeMember, integer_tree, object_of}
 use Rattle.sig_bundle.specs.declared.material.TransparencyLogEntry.{TransparencyLogEntry}
 use Rattle.sig_certificate.specs.Certificate.{Cert}
 use Rattle.sig_evidence.specs.Logs.{log_id_rows, named_sct, sct_rows}
-use Rattle.sig_evidence.specs.Rules.{policy_tree}
+use Rattle.sig_explanation.specs.Rules.{policy_tree}
 use Rattle.sig_evidence.specs.Trees.{proof_tree}
 use Rattle.sig_json.specs.Data.{Data}
 use Rattle.sig_rekor.specs.declared.inclusion_proof.InclusionProof.{InclusionProof}

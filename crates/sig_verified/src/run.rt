@@ -11,7 +11,7 @@ use crate::envelope::with_envelope;
 use sig_base::OutOfMemory;
 use sig_bundle::{ArtifactDigest, Bundle};
 use sig_checked_bundle::CheckedBundle;
-use sig_evidence::with_policy_rules;
+use sig_explanation::with_policy_rules;
 use sig_json::{Document, Object};
 use sig_policy::RequestPolicy;
 use sig_rekor::InclusionProof;

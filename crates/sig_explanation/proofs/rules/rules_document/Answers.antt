@@ -1,7 +1,7 @@
 -- What was written so far is the front of the list.
 use Rattle.std.proofs.Common.{arith}
 use Rattle.sig_json.specs.Tree.{document_tree}
-use Rattle.sig_evidence.specs.Rules.{rule_tree}
+use Rattle.sig_explanation.specs.Rules.{rule_tree}
 use Rattle.sig_shown.proofs.Lists.{list_more}
 use Rattle.sig_evidence.proofs.rules.rules_document.Goals as goal
 

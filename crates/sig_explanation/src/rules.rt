@@ -7,15 +7,15 @@
 //! ```
 ghost use Rattle.std.specs.Prelude.{◌≡◌, IfOk};
 ghost use Rattle.sig_json.specs.Writing.{members, members_into};
-ghost use Rattle.sig_evidence.specs.Rules.{judgement, judgement_rows, policy_tree, require_name, rule_name, rule_tree, rules_of};
-ghost use Rattle.sig_evidence.specs.Rules.{rules_tree};
+ghost use Rattle.sig_explanation.specs.Rules.{judgement, judgement_rows, policy_tree, require_name, rule_name, rule_tree, rules_of};
+ghost use Rattle.sig_explanation.specs.Rules.{rules_tree};
 ghost use Rattle.sig_json.specs.Data.{put};
 ghost use Rattle.sig_json.specs.Tree.{document_tree};
 ghost use Rattle.sig_policy.specs.Refusals.{IsRefusalOf};
 
+use crate::policy::with_refused;
 use sig_base::OutOfMemory;
 use sig_certificate::Certificate;
-use sig_explanation::with_refused;
 use sig_json::{Document, Object};
 use sig_policy::{LeafPolicy, PolicyError, RequestPolicy, VerificationPolicy};
 use sig_shown::{first, with_count};

@@ -3,8 +3,8 @@ use Rattle.std.proofs.Common.{◌≡◌, Some, subst}
 use Rattle.std.specs.Prelude.{IfOk}
 use Rattle.sig_json.specs.Writing.{members, members_into}
 use Rattle.sig_policy.specs.Refusals.{IsRefusalOf}
-use Rattle.sig_evidence.proofs.RuleRefusals.{judgement_is}
-use Rattle.sig_evidence.specs.Rules.{judgement}
+use Rattle.sig_explanation.proofs.RuleRefusals.{judgement_is}
+use Rattle.sig_explanation.specs.Rules.{judgement}
 use Rattle.sig_evidence.proofs.rules.with_judged.Goals as goal
 
 pub returns-in-Some : goal.returns-in-Some

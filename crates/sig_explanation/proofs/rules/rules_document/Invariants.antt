@@ -1,7 +1,7 @@
 -- What was written so far is the front of the list.
 use Rattle.std.proofs.Common.{◌≡◌, take}
 use Rattle.sig_json.specs.Tree.{document_tree}
-use Rattle.sig_evidence.specs.Rules.{rules_tree}
+use Rattle.sig_explanation.specs.Rules.{rules_tree}
 use Rattle.sig_evidence.proofs.rules.rules_document.Given as goal
 
 abbrev pub invariant-rules : goal.invariant-rules

@@ -11,7 +11,7 @@ use Rattle.sig_policy.specs.declared.failure.PolicyError.{PolicyError, out-Polic
 use Rattle.sig_policy.specs.declared.request.LeafPolicy.{LeafPolicy}
 use Rattle.sig_policy.specs.declared.request.LeafPolicy.TheVariants as leaf
 use Rattle.sig_explanation.specs.KeptRows.{inner_policy_rows}
-use Rattle.sig_evidence.specs.Rules.{judgement, judgement_rows, refused_rows}
+use Rattle.sig_explanation.specs.Rules.{judgement, judgement_rows, refused_rows}
 
 -- the refusal is of no list
 abbrev IsPlain : Refusal → Type 0
