@@ -3,7 +3,7 @@ import chains
 import gate_roots
 import measure
 import notes
-from goals import MOST_DOUBLED, MOST_MEGABYTES, MOST_SECONDS
+from goals import MOST_MEGABYTES, MOST_SECONDS
 from measure import megabytes, written
 from shapes import filled
 
@@ -50,15 +50,16 @@ def questions(bench):
             measure.fail(f"questions {said}: {status}")
         if wanted:
             measure.expect(words, path, written(words, path, status), wanted)
-        [took], peak = bench.seconds(path, words, status=status), megabytes(words, path, status)
+        took, peak = bench.timer(path, words, status), megabytes(words, path, status)
         bench.goal(f"questions {said}, {len(text)} bytes, MB", peak, MOST_MEGABYTES)
-        bench.goal(f"questions {said}, {len(text)} bytes, seconds", took, MOST_SECONDS)
-        path.unlink()
+        bench.goal(f"questions {said}, {len(text)} bytes, seconds", took.least, MOST_SECONDS)
         return status, took, peak
 
     for command, name, make, wanted in requests():
         words, said = [bench.program, "questions", command], f"{command}, {name}"
         text, half = make(bench.most), make(bench.most // 2)
         (status, took, peak), (_, first, _) = measured(words, said, text, wanted), measured(words, said, half, wanted)
-        table.row(said, status, len(text), took * 1000, round(peak), took / first)
-        bench.goal(f"questions {said}, time to that at half", took / first, MOST_DOUBLED)
+        doubled = bench.doubled(f"questions {said}", first, took)
+        table.row(said, status, len(text), took.least * 1000, round(peak), doubled)
+        first.path.unlink()
+        took.path.unlink()

@@ -13,7 +13,7 @@ import shapes
 import witnesses
 from asked import largest
 from gate_refusals import REFUSALS
-from goals import MOST_DOUBLED, MOST_MEGABYTES, MOST_SECONDS
+from goals import MOST_MEGABYTES, MOST_SECONDS
 from measure import megabytes
 from shapes import EXAMPLE, numbered, signature_line
 from signed import written
@@ -199,21 +199,20 @@ def requests(bench, kinds_of):
 
 
 def timed(bench, command, text):
-    """The status, the time and the memory of `explain` over a request, and the time of the command alone."""
+    """The status, the timer and the memory of `explain` over a request, and the time of the command alone."""
     path, words, plain = bench.kept(text), [bench.program, "explain", command], [bench.program, command]
     status = measure.status_over(plain, path)
-    took, alone = bench.seconds(path, words, plain, status=status)
-    peak = megabytes(words, path, status)
-    path.unlink()
-    return status, took, peak, alone
+    took, [alone] = bench.timer(path, words, status), bench.seconds(path, plain, status=status)
+    return status, took, megabytes(words, path, status), alone
 
 
 def measured(bench, table, command, title, text, half):
     """The row of a request: the time and memory of `explain`, beside the time of the command alone, and that over half as much."""
     first = half and timed(bench, command, half)[1]
     status, took, peak, alone = timed(bench, command, text)
-    table.row(f"{command}, {title}", status, len(text), took * 1000, round(peak), took / alone, half and took / first)
+    doubled = half and bench.doubled(f"explain {command}, {title}", first, took)
+    table.row(f"{command}, {title}", status, len(text), took.least * 1000, round(peak), took.least / alone, doubled)
     bench.goal(f"explain {command}, {title}, MB", peak, MOST_MEGABYTES)
-    bench.goal(f"explain {command}, {title}, seconds", took, MOST_SECONDS)
-    if half:
-        bench.goal(f"explain {command}, {title}, time to that at half", took / first, MOST_DOUBLED)
+    bench.goal(f"explain {command}, {title}, seconds", took.least, MOST_SECONDS)
+    for timer in filter(None, (first, took)):
+        timer.path.unlink()

@@ -5,7 +5,7 @@ import measure
 import shapes
 import signed
 from chains import payload_of
-from goals import MOST_DOUBLED, MOST_MEGABYTES, MOST_SECONDS, MOST_TO_CHECKS
+from goals import MOST_MEGABYTES, MOST_SECONDS, MOST_TO_CHECKS
 from library import PAYLOAD
 from manifests import MOST_ARTIFACTS, artifact, manifest, report
 from measure import megabytes, written
@@ -125,16 +125,15 @@ def gates(bench):
     def timed(text, said):
         path, status = bench.kept(text), int(" deny " in said)
         measure.expect(words, path, written(words, path, status), said.strip())
-        return path, status, bench.seconds(path, words, status=status)[0]
+        return bench.timer(path, words, status)
 
     def row(name, half, whole, alone=None, processes=None):
-        first = timed(*half)[-1]
-        path, status, took = timed(*whole)
-        peak = megabytes(words, path, status)
-        table.row(name, len(whole[0]), took * 1000, round(peak), alone and took / alone, processes and took / processes, took / first)
+        first, timer = timed(*half), timed(*whole)
+        doubled = bench.doubled(f"gate, {name}", first, timer)
+        took, peak = timer.least, megabytes(words, timer.path, timer.status)
+        table.row(name, len(whole[0]), took * 1000, round(peak), alone and took / alone, processes and took / processes, doubled)
         bench.goal(f"gate, {name}, MB", peak, MOST_MEGABYTES)
         bench.goal(f"gate, {name}, seconds", took, MOST_SECONDS)
-        bench.goal(f"gate, {name}, time to that at half", took / first, MOST_DOUBLED)
         return took
 
     made = requests(MOST_ARTIFACTS, PAYLOAD)

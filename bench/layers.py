@@ -5,7 +5,7 @@ import json
 import fixture
 import measure
 import shapes
-from goals import MOST_DOUBLED, MOST_MEGABYTES, MOST_SECONDS
+from goals import MOST_MEGABYTES, MOST_SECONDS
 from measure import megabytes, written
 from shapes import filled, repeated
 
@@ -103,8 +103,9 @@ def images(bench):
         command, word = [bench.reader, *word.split(" ")], word.split(" ")[0]
         for path in (half, whole):
             measure.expect(command, path, written(command, path), shown)
-        [first], [took], peak = bench.seconds(half, command), bench.seconds(whole, command), megabytes(command, whole)
-        table.row(f"{word}, {name}", shown, whole.stat().st_size, took * 1000, round(peak), (took - start) / (first - start))
+        first, timer = (bench.timer(path, command, start=start) for path in (half, whole))
+        doubled = bench.doubled(f"{word}, {name}", first, timer)
+        took, peak = timer.least + start, megabytes(command, whole)
+        table.row(f"{word}, {name}", shown, whole.stat().st_size, took * 1000, round(peak), doubled)
         bench.goal(f"{word}, {name}, MB", peak, MOST_MEGABYTES)
         bench.goal(f"{word}, {name}, seconds", took, MOST_SECONDS)
-        bench.goal(f"{word}, {name}, time to that at half", (took - start) / (first - start), MOST_DOUBLED)

@@ -1,5 +1,6 @@
 """Programs that are measured: whether they are up to date, how long they take over a file, and how much memory."""
 import ctypes
+import dataclasses
 import os
 import pathlib
 import shutil
@@ -11,9 +12,11 @@ TOP = pathlib.Path(__file__).resolve().parent.parent
 sys.path.append(str(TOP / "tools"))
 
 from floors import below, dependencies, sources
+from goals import MOST_DOUBLED
 
 PEERS = TOP / "bench/peers"
 SMALL = 2**20  # the time over a file of fewer bytes is the best of ten times as many runs
+MORE_TURNS = 6  # how often an input and half of it are measured again, while their ratio misses its goal
 
 
 class Bench:
@@ -55,6 +58,36 @@ class Bench:
             for place, words in enumerate(commands):
                 best[place] = min(best[place], processor_seconds(words, path, status))
         return best
+
+    def timer(self, path, words, status=0, start=0):
+        """The least time of a command over a file, beyond the seconds of the start of its process."""
+        [least] = self.seconds(path, words, status=status)
+        return Timer(path, words, status, start, least - start)
+
+    def doubled(self, what, half, whole, most=MOST_DOUBLED):
+        """The time over an input to that over half of it, by the least of each. While their ratio is above the goal both are measured
+        again, in turns: a least time of few runs is above the least of many by what else the machine did."""
+        for _ in range(MORE_TURNS):
+            if whole.least <= most * half.least:
+                break
+            half.again()
+            whole.again()
+        self.goal(f"{what}, time to that at half", whole.least / half.least, most)
+        return whole.least / half.least
+
+
+@dataclasses.dataclass
+class Timer:
+    """A command over a file, and the least time that it took, in seconds beyond the start of its process."""
+
+    path: pathlib.Path
+    words: list
+    status: int
+    start: float
+    least: float
+
+    def again(self):
+        self.least = min(self.least, processor_seconds(self.words, self.path, self.status) - self.start)
 
 
 class Table:

@@ -14,7 +14,7 @@ from asked import questions
 from bundles_at_once import bundles_at_once
 from gates import gates
 from goals import (
-    MOST_TO_PLAIN, MOST_TO_PLAIN_SMALL, MOST_DOUBLED, MOST_TO_READING_AND_HASHING, MOST_OF_HEADS, MOST_BEYOND_START,
+    MOST_TO_PLAIN, MOST_TO_PLAIN_SMALL, MOST_TO_READING_AND_HASHING, MOST_OF_HEADS, MOST_BEYOND_START,
     MOST_OF_DEMO, MOST_MEGABYTES, MOST_MEGABYTES_OF_STATEMENT, MOST_SECONDS, MOST_SECONDS_OF_A_MILLION,
     MOST_TO_HASHING, MOST_MEGABYTES_OF_ARTIFACT, MOST_OF_TWICE_AS_MANY, MOST_TO_HASHES,
 )
@@ -63,12 +63,11 @@ def status_of(reply):
     return 2 if reply == "refused request" else 1 if reply.startswith("refused") else 0
 
 
-def timed(bench, commands, text, reply):
-    """The best times of the commands over a request that has to have this reply, and their peak memory."""
+def timed(bench, command, text, reply, start=0):
+    """The timer of a command over a request that has to have this reply, and its peak memory."""
     path, status = bench.kept(text), status_of(reply)
-    for words in commands:
-        measure.expect(words, path, written(words, path, status), reply)
-    return bench.seconds(path, *commands, status=status), [megabytes(words, path, status) for words in commands]
+    measure.expect(command, path, written(command, path, status), reply)
+    return bench.timer(path, command, status, start), megabytes(command, path, status)
 
 
 def log(bench):
@@ -76,31 +75,28 @@ def log(bench):
     time to that over a request of half the size."""
     packages = "librust-serde-json-dev librust-sha2-dev librust-base64-dev librust-hex-dev"
     plain = measure.peer("log", "plain-log", packages)
-    commands = [[program, "log"] for program in (bench.program, plain) if program]
+    command = [bench.program, "log"]
     beside = ("plain ms", "plain MB", "to plain") if plain else ()
     table = bench.table(log, "request", "reply", "bytes", "ms", "MB", *beside, "to half")
 
     def measured(name, text, reply):
-        """Times and peaks over a request; the goals that it misses are noted."""
-        times, peaks = timed(bench, commands, text, reply)
+        """The timer and the peak over a request, and what it is to the plain program; the goals that it misses are noted."""
+        took, peak = timed(bench, command, text, reply)
         said = f"log, {name}, {len(text)} bytes"
-        bench.goal(f"{said}, MB", peaks[0], MOST_MEGABYTES)
-        bench.goal(f"{said}, seconds", times[0], MOST_SECONDS)
-        if plain:
-            most = MOST_TO_PLAIN if len(text) > 2**16 else MOST_TO_PLAIN_SMALL
-            bench.goal(f"{said}, time to the plain program", times[0] / times[1], most)
-        return times, peaks
+        bench.goal(f"{said}, MB", peak, MOST_MEGABYTES)
+        bench.goal(f"{said}, seconds", took.least, MOST_SECONDS)
+        if not plain:
+            return took, peak, []
+        other, others_peak = timed(bench, [plain, "log"], text, reply)
+        bench.goal(f"{said}, time to the plain program", took.least / other.least, MOST_TO_PLAIN if len(text) > 2**16 else MOST_TO_PLAIN_SMALL)
+        return took, peak, [other.least * 1000, round(others_peak), took.least / other.least]
 
     def row(name, text, reply, half=None):
         """The row of a request, and of the one of half its size where there is one."""
-        first = half and measured(name, half, reply)[0][0]
-        times, peaks = measured(name, text, reply)
-        cells = [cell for took, peak in zip(times, peaks) for cell in (took * 1000, round(peak))]
-        cells += [times[0] / times[1]] if plain else []
-        doubled = half and times[0] / first
-        table.row(name, reply, len(text), *cells, doubled)
-        if half:
-            bench.goal(f"log, {name}, time to that at half", doubled, MOST_DOUBLED)
+        first = half and measured(name, half, reply)[0]
+        took, peak, cells = measured(name, text, reply)
+        doubled = half and bench.doubled(f"log, {name}", first, took)
+        table.row(name, reply, len(text), took.least * 1000, round(peak), *cells, doubled)
 
     for name in ("log", "log-rekor-staging"):
         example = measure.TOP / f"examples/{name}.json"
@@ -121,19 +117,18 @@ def verify(bench):
     table.row("none: the process alone", "", 0, start * 1000, None, None)
 
     def measured(name, text, reply):
-        """Time beyond the start and peak over a request."""
-        [took], [peak] = timed(bench, [command], text, reply)
+        """The timer beyond the start and the peak over a request."""
+        took, peak = timed(bench, command, text, reply, start)
         bench.goal(f"verify, {name}, {len(text)} bytes, MB", peak, MOST_MEGABYTES)
-        bench.goal(f"verify, {name}, {len(text)} bytes, seconds", took, MOST_SECONDS)
-        return took - start, peak
+        bench.goal(f"verify, {name}, {len(text)} bytes, seconds", took.least + start, MOST_SECONDS)
+        return took, peak
 
     def row(name, text, reply, half=None):
         first = half and measured(name, half, reply)[0]
         took, peak = measured(name, text, reply)
-        table.row(name, reply, len(text), took * 1000, round(peak), half and took / first)
-        if half:
-            bench.goal(f"verify, {name}, time to that at half", took / first, MOST_DOUBLED)
-        return took * 1000
+        doubled = half and bench.doubled(f"verify, {name}", first, took)
+        table.row(name, reply, len(text), took.least * 1000, round(peak), doubled)
+        return took.least * 1000
 
     for name, text in (("examples/verify.json", signed.example()), ("a payload of 10 KB", chains.small(10000))):
         bench.goal(f"verify, {name}, ms beyond the start", row(name, text, "verified 2 5"), MOST_BEYOND_START)
@@ -189,29 +184,29 @@ def entries(bench):
     table = bench.table(entries, "command", "entries", "bytes", "ms", "MB", "read ms", "hash ms", "to both", "to half")
 
     def measured(command, name, made):
-        """Size, time and peak over the request with these entries, and the time of reading it alone."""
+        """Size, timer and peak over the request with these entries, and the time of reading it alone."""
         make, replies = OF_ENTRIES[command]
         first, second = replies(len(made))
-        words, text = [[bench.program, command]], make(made)
-        [took], [peak] = timed(bench, words, text, f"{first}\n{second}")
-        [read], _ = timed(bench, words, make(made, [b"more"]), f"{first}\nother list")
+        words, text = [bench.program, command], make(made)
+        took, peak = timed(bench, words, text, f"{first}\n{second}")
+        read, _ = timed(bench, words, make(made, [b"more"]), f"{first}\nother list")
         bench.goal(f"{command}, {name}, {len(text)} bytes, MB", peak, MOST_MEGABYTES)
-        bench.goal(f"{command}, {name}, {len(text)} bytes, seconds", took, MOST_SECONDS)
-        return len(text), took, peak, read
+        bench.goal(f"{command}, {name}, {len(text)} bytes, seconds", took.least, MOST_SECONDS)
+        return len(text), took, peak, read.least
 
     def row(command, name, half, whole):
         first = measured(command, name, half)[1]
         size, took, peak, read = measured(command, name, whole)
-        table.row(command, name, size, took * 1000, round(peak), read * 1000, None, None, took / first)
-        bench.goal(f"{command}, {name}, time to that at half", took / first, MOST_DOUBLED)
+        doubled = bench.doubled(f"{command}, {name}", first, took)
+        table.row(command, name, size, took.least * 1000, round(peak), read * 1000, None, None, doubled)
 
     for command in OF_ENTRIES:
         # A request of `log` has its entry besides.
         big = own_entries.big(bench.most, more=int(command == "log"))
         [hashed] = bench.seconds(bench.kept(b""), [bench.reader, "hash", str(sum(map(len, big)))], slow=True)
         size, took, peak, read = measured(command, "big entries", big)
-        to_both = took / (read + hashed)
-        table.row(command, "four of one size", size, took * 1000, round(peak), read * 1000, hashed * 1000, to_both, None)
+        to_both = took.least / (read + hashed)
+        table.row(command, "four of one size", size, took.least * 1000, round(peak), read * 1000, hashed * 1000, to_both, None)
         bench.goal(f"{command}, big entries, time to reading and hashing", to_both, MOST_TO_READING_AND_HASHING)
         row(command, "131,072 small ones", own_entries.small(2**16), own_entries.small(2**17))
         for name, make in own_entries.FILLING:
@@ -223,14 +218,14 @@ def audits(bench):
     request with one entry more, which is read and not hashed. The last column is the time beyond that, of hashing the
     list and of the roots of its beginnings, to that of one head alone."""
     table = bench.table(audits, "heads", "bytes", "ms", "MB", "read ms", "hash ms", "to one")
-    words, made, alone = [[bench.program, "audit"]], own_entries.small(100_000), None
+    words, made, alone = [bench.program, "audit"], own_entries.small(100_000), None
     for count in (1, 16, 256):
         text = own_entries.of_heads(count, made)
-        [took], [peak] = timed(bench, words, text, f"audited {count} 0 100000\nprefixes {count}")
-        [read], _ = timed(bench, words, own_entries.of_heads(count, made, [b"more"]), f"audited {count} 0 100000\nother list")
-        hashed = took - read
+        took, peak = timed(bench, words, text, f"audited {count} 0 100000\nprefixes {count}")
+        read, _ = timed(bench, words, own_entries.of_heads(count, made, [b"more"]), f"audited {count} 0 100000\nother list")
+        hashed = took.least - read.least
         alone = hashed if alone is None else alone
-        table.row(str(count), len(text), took * 1000, round(peak), read * 1000, hashed * 1000, hashed / alone)
+        table.row(str(count), len(text), took.least * 1000, round(peak), read.least * 1000, hashed * 1000, hashed / alone)
         bench.goal(f"audit, {count} heads, time of the list to that of one", hashed / alone, MOST_OF_HEADS)
 
 
@@ -250,16 +245,16 @@ def audit_lists(bench):
     """Requests of `audit`, each of their lists at half of the largest size and at the whole. The last column is the time
     to that over a request of half the size."""
     table = bench.table(audit_lists, "request", "reply", "bytes", "ms", "MB", "to half")
-    words = [[bench.program, "audit"]]
+    words = [bench.program, "audit"]
     for reply, requests in AUDIT_REQUESTS.items():
         for name, make in requests:
-            [first], _ = timed(bench, words, filled(make, bench.most // 2), reply)
+            first, _ = timed(bench, words, filled(make, bench.most // 2), reply)
             text = filled(make, bench.most)
-            [took], [peak] = timed(bench, words, text, reply)
-            table.row(name, reply, len(text), took * 1000, round(peak), took / first)
+            took, peak = timed(bench, words, text, reply)
+            doubled = bench.doubled(f"audit, {name}", first, took)
+            table.row(name, reply, len(text), took.least * 1000, round(peak), doubled)
             bench.goal(f"audit, {name}, MB", peak, MOST_MEGABYTES)
-            bench.goal(f"audit, {name}, seconds", took, MOST_SECONDS)
-            bench.goal(f"audit, {name}, time to that at half", took / first, MOST_DOUBLED)
+            bench.goal(f"audit, {name}, seconds", took.least, MOST_SECONDS)
 
 
 def explanations(bench):
@@ -279,12 +274,12 @@ def demo(bench):
     commands = [[bench.program, "--version"], *([bench.program, "demo", str(count)] for count in (2048, 4096))]
     for words, shown in zip(commands[1:], DEMO_SHOWN):
         measure.expect(words, nothing, written(words, nothing).splitlines()[-1], shown)
-    start, half, whole = bench.seconds(nothing, *commands)
+    [start] = bench.seconds(nothing, commands[0])
+    half, whole = (bench.timer(nothing, command, start=start) for command in commands[1:])
     hashed = min(own_entries.hashing_tree(2**12) for _ in range(bench.runs))
-    table.row("4,096", (whole - start) * 1000, round(megabytes(commands[-1], nothing)), hashed * 1000,
-              (whole - start) / (half - start))
-    bench.goal("demo, milliseconds", (whole - start) * 1000, MOST_OF_DEMO)
-    bench.goal("demo, time to that at half", (whole - start) / (half - start), MOST_DOUBLED)
+    doubled = bench.doubled("demo", half, whole)
+    table.row("4,096", whole.least * 1000, round(megabytes(commands[-1], nothing)), hashed * 1000, doubled)
+    bench.goal("demo, milliseconds", whole.least * 1000, MOST_OF_DEMO)
 
 
 # Certificates by their numbers of extensions; webpki reads no more than 2^16 bytes.
@@ -356,9 +351,9 @@ def documents(bench):
         bench.goal(f"document, {name}, MB", peak, MOST_MEGABYTES)
         bench.goal(f"document, {name}, seconds", took, MOST_SECONDS)
         for word in ("compact", "canonical"):
-            first, both = (bench.seconds(path, [reader, word])[0] - start for path in (half, whole))
-            cells += [both * 1000, both / first, round(megabytes([reader, word], whole))]
-            bench.goal(f"document, {name}, {word}, time to that at half", both / first, MOST_DOUBLED)
+            first, both = (bench.timer(path, [reader, word], start=start) for path in (half, whole))
+            doubled = bench.doubled(f"document, {name}, {word}", first, both)
+            cells += [both.least * 1000, doubled, round(megabytes([reader, word], whole))]
         table.row(name, *cells)
 
 
@@ -407,15 +402,14 @@ def read(bench, table, rows, words, most=MOST_MEGABYTES):
     commands = [[bench.reader, word] for word in words]
     start = bench.seconds(bench.kept(b"{}"), [bench.reader, "read"])[0]
     for name, half, text in rows:
-        path = bench.kept(text)
-        firsts, times = bench.seconds(bench.kept(half), *commands), bench.seconds(path, *commands)
-        peaks, doubled = [megabytes(command, path) for command in commands], [(took - start) / (first - start) for first, took in zip(firsts, times)]
-        cells = (cell for took, peak, ratio in zip(times, peaks, doubled) for cell in ((took - start) * 1000, round(peak), ratio))
+        first, path, cells = bench.kept(half), bench.kept(text), []
+        for word, command in zip(words, commands):
+            timers = [bench.timer(each, command, start=start) for each in (first, path)]
+            doubled, took, peak = bench.doubled(f"{word}, {name}", *timers), timers[1].least, megabytes(command, path)
+            cells += [took * 1000, round(peak), doubled]
+            bench.goal(f"{word}, {name}, MB", peak, most)
+            bench.goal(f"{word}, {name}, seconds", took + start, MOST_SECONDS)
         table.row(name, len(text), *cells)
-        bench.goal(f"{words[0]}, {name}, MB", max(peaks), most)
-        bench.goal(f"{words[0]}, {name}, seconds", max(times), MOST_SECONDS)
-        for word, ratio in zip(words, doubled):
-            bench.goal(f"{word}, {name}, time to that at half", ratio, MOST_DOUBLED)
 
 
 def artifacts(bench):
@@ -447,14 +441,14 @@ def pools(bench):
         path, command = bench.kept(roots.one_name(count)), [bench.reader, "pool", str(count)]
         questions = count + count * 2 * count
         measure.expect(command, path, written(command, path), str(questions))
-        return questions, bench.seconds(path, command)[0] - start, megabytes(command, path)
+        return questions, bench.timer(path, command, start=start), megabytes(command, path)
 
     for count in (MOST_INTERMEDIATES // 2, MOST_INTERMEDIATES):
         (questions, took, peak), (_, half, _) = measured(count), measured(count // 2)
         name = f"{count:,} and {count:,} of one name"
-        table.row(name, 2 * count * count, questions, took * 1000, round(peak), took / half)
-        bench.goal(f"pool, {name}, time to that at half", took / half, MOST_OF_TWICE_AS_MANY)
-        bench.goal(f"pool, {name}, seconds", took, MOST_SECONDS)
+        doubled = bench.doubled(f"pool, {name}", half, took, MOST_OF_TWICE_AS_MANY)
+        table.row(name, 2 * count * count, questions, took.least * 1000, round(peak), doubled)
+        bench.goal(f"pool, {name}, seconds", took.least, MOST_SECONDS)
 
 
 CHECKS = 10000  # how many checks of inclusion are timed at once

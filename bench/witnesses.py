@@ -4,7 +4,7 @@ import json
 
 import measure
 import shapes
-from goals import MOST_DOUBLED, MOST_MEGABYTES, MOST_SECONDS
+from goals import MOST_MEGABYTES, MOST_SECONDS
 from measure import megabytes, written
 from shapes import EXAMPLE, coded, numbered, signature_line
 
@@ -104,13 +104,11 @@ def witnesses(bench):
     def timed(text, said, status):
         path = bench.kept(text)
         measure.expect(words, path, written(words, path, status), said.strip())
-        return path, bench.seconds(path, words, status=status)[0]
+        return bench.timer(path, words, status)
 
     for name, half, whole in rows(bench):
-        _, first = timed(*half)
-        path, took = timed(*whole)
-        peak = megabytes(words, path, whole[2])
-        table.row(name, len(whole[0]), took * 1000, round(peak), took / first)
+        first, took = timed(*half), timed(*whole)
+        doubled, peak = bench.doubled(f"witness, {name}", first, took), megabytes(words, took.path, whole[2])
+        table.row(name, len(whole[0]), took.least * 1000, round(peak), doubled)
         bench.goal(f"witness, {name}, MB", peak, MOST_MEGABYTES)
-        bench.goal(f"witness, {name}, seconds", took, MOST_SECONDS)
-        bench.goal(f"witness, {name}, time to that at half", took / first, MOST_DOUBLED)
+        bench.goal(f"witness, {name}, seconds", took.least, MOST_SECONDS)
