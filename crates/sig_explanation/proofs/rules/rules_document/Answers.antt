@@ -3,7 +3,7 @@ use Rattle.std.proofs.Common.{arith}
 use Rattle.sig_json.specs.Tree.{document_tree}
 use Rattle.sig_explanation.specs.Rules.{rule_tree}
 use Rattle.sig_shown.proofs.Lists.{list_more}
-use Rattle.sig_evidence.proofs.rules.rules_document.Goals as goal
+use Rattle.sig_explanation.proofs.rules.rules_document.Goals as goal
 
 pub rules-preserved : goal.rules-preserved
 rules-preserved c =

@@ -5,7 +5,7 @@ use Rattle.sig_json.specs.Writing.{members, members_into}
 use Rattle.sig_policy.specs.Refusals.{IsRefusalOf}
 use Rattle.sig_explanation.proofs.RuleRefusals.{judgement_is}
 use Rattle.sig_explanation.specs.Rules.{judgement}
-use Rattle.sig_evidence.proofs.rules.with_judged.Goals as goal
+use Rattle.sig_explanation.proofs.rules.with_judged.Goals as goal
 
 pub returns-in-Some : goal.returns-in-Some
 returns-in-Some c =
