@@ -60,7 +60,7 @@ def of_promises():
     yield "nested too deep", lambda count: b"[" * count, "1"
 
 
-def bundle(predicate=b"{}", subjects=(), inside=b"", behind=b"", signature=b"sig-dsse", certificate=b"der"):
+def bundle(predicate=b"{}", subjects=(), inside=b"", after=b"", signature=b"sig-dsse", certificate=b"der"):
     """The bundle of an image, with a predicate and further subjects as they stand, and with members that are ignored."""
     first = {"name": "image", "digest": {"sha256": fixture.DIGEST}}
     kinds = {"_type": "https://in-toto.io/Statement/v1", "predicateType": "https://sigstore.dev/cosign/sign/v1"}
@@ -69,12 +69,12 @@ def bundle(predicate=b"{}", subjects=(), inside=b"", behind=b"", signature=b"sig
     made = fixture.Request(payload=payload, signature=signature, body=fixture.body_of(payload, signature, certificate), log_id=bytes(32))
     tree = made.bundle()
     tree["verificationMaterial"]["certificate"]["rawBytes"] = fixture.base64_of(certificate)
-    return compact(tree).encode().replace(b'"tlogEntries":[{', b'"tlogEntries":[{' + inside, 1)[:-1] + behind + b"}"
+    return compact(tree).encode().replace(b'"tlogEntries":[{', b'"tlogEntries":[{' + inside, 1)[:-1] + after + b"}"
 
 
 def of_bundles():
     for name, item in shapes.worst(above=2):
-        yield f"ignored: {name}", lambda count, make=beside(repeated(item)): bundle(behind=make(count)), "0"
+        yield f"ignored: {name}", lambda count, make=beside(repeated(item)): bundle(after=make(count)), "0"
     yield "ignored: lists of five, in the log entry", lambda count: bundle(inside=b'"a":' + repeated("[0,0,0,0,0]")(count) + b","), "0"
     yield "a predicate of lists of five", lambda count: bundle(predicate=repeated("[0,0,0,0,0]")(count)), "0"
     yield "further subjects", lambda count: bundle(subjects=[{"digest": {"sha256": ""}}] * count), "0"

@@ -9,7 +9,7 @@ DEFINITIONS = pathlib.Path(__file__).resolve().parent.parent / "crates/sig_expla
 
 # Which definition names what stands after a name in a cause; before the first name there is the error of the library call.
 FIRST = ""
-BEHIND = {FIRST: "offline_name", "Json": "json_name", "TrustRoot": "trust_part_name", "Bundle": "bundle_name", "NoLeaf": "validation_name",
+AFTER = {FIRST: "offline_name", "Json": "json_name", "TrustRoot": "trust_part_name", "Bundle": "bundle_name", "NoLeaf": "validation_name",
           "NotLeaf": "not_leaf_name", "NotCA": "not_ca_name", "Extension": "extension_name", "BundleProfile": "profile_name",
           "Bundle01Profile": "profile_01_name", "Bundle02Profile": "profile_02_name", "Certificate": "certificate_name", "Sct": "sct_name",
           "Parsing": "parsing_name", "Verification": "keyring_name", "Signature": "signature_name", "ParseCheckpointError": "checkpoint_name",
@@ -36,7 +36,7 @@ def defined():
 
 def of_cause(cause, first):
     """The names of a cause that stands after this name."""
-    return {f"{BEHIND[before]} {name}" for before, name in zip([first, *cause], cause) if before in BEHIND}
+    return {f"{AFTER[before]} {name}" for before, name in zip([first, *cause], cause) if before in AFTER}
 
 
 def names_within(value, first=FIRST):

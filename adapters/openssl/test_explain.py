@@ -38,16 +38,16 @@ def names_in(text):
     return {kind: [name for name in names if name != "OutOfMemory"] for kind, names in found.items()}
 
 
-def behind_in(text):
+def after_in(text):
     """By the kind of an error and a variant of it: the kind of what the variant keeps."""
-    rows = re.findall(r"^behind_(\w+) \(\w+\.(\w+) .*?\) = (\w+)_(?:name|cause) ", text, re.M)
+    rows = re.findall(r"^after_(\w+) \(\w+\.(\w+) .*?\) = (\w+)_(?:name|cause) ", text, re.M)
     return {(kind, variant): inner for kind, variant, inner in rows}
 
 
-def paths(kind, names, behind):
+def paths(kind, names, after):
     for name in names[kind]:
-        inner = behind.get((kind, name))
-        yield from [(name, *rest) for rest in paths(inner, names, behind)] if inner else [(name,)]
+        inner = after.get((kind, name))
+        yield from [(name, *rest) for rest in paths(inner, names, after)] if inner else [(name,)]
 
 
 def variants(crate, name):
@@ -61,10 +61,10 @@ def variants(crate, name):
 
 def causes():
     names = names_in(text_of("sig_explanation", "specs", "Names.antt"))
-    behind = behind_in(text_of("sig_explanation", "specs", "Cause.antt"))
+    after = after_in(text_of("sig_explanation", "specs", "Cause.antt"))
     request = variants("sig_request_fault", "RequestFault") - {"Document"} | variants("sig_table", "DocumentFault")
     states = variants("sig_witness", "StateError")
-    return {*paths("offline", names, behind), *[(name,) for name in request], *[("State", name) for name in states]}
+    return {*paths("offline", names, after), *[(name,) for name in request], *[("State", name) for name in states]}
 
 
 def check_table(results, _):

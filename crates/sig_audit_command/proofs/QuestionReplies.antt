@@ -87,7 +87,7 @@ long-asked text long = first-asked text Request (inl (long-request text long)) n
 -- ---- a list that is written can be given back
 
 pub lists_given_back : AuditListsAreGivenBack
-lists_given_back front behind list reply is lists =
+lists_given_back front after list reply is lists =
     let every = is.succeeds.0 (ap (λ (r : Reply). r.status) lists) in
     let made = is.vouched every every.request every.heads every.is in
-    wherever_put front behind list (audit_rows every.request every.heads) (sym lists ∙ made.1) every.fits
+    wherever_put front after list (audit_rows every.request every.heads) (sym lists ∙ made.1) every.fits

@@ -46,5 +46,5 @@ AuditQuestionsSuffice =
 -- a request may have.
 abbrev pub AuditListsAreGivenBack : Type 0
 AuditListsAreGivenBack =
-    (front behind list : List ℕ) (reply : Reply) → IsAuditQuestionsReply (front ++ behind) reply → reply ≡ listed list
-    → length (front ++ (accepted_name ++ (list ++ behind))) ≤ most_bytes
+    (front after list : List ℕ) (reply : Reply) → IsAuditQuestionsReply (front ++ after) reply → reply ≡ listed list
+    → length (front ++ (accepted_name ++ (list ++ after))) ≤ most_bytes

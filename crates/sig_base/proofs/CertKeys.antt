@@ -131,7 +131,7 @@ module _ (rows : List AcceptedRow) (row : AcceptedRow) (order : List ℕ) where
           (λ before. let less = starts.0 held.0 index (omega arith) before in absurd (cc (less, tied)))
           (λ le. le) (cases_lt held.0 first) in
           let high : held.0 < end = ⊎_elim (λ lt. lt)
-          (λ behind. let more = ends.1 held.0 index behind held.1 in absurd (cc (more, tied)))
+          (λ after. let more = ends.1 held.0 index after held.1 in absurd (cc (more, tied)))
           (cases_lt held.0 end) in
           let sum : first + (held.0 - first) ≡ held.0 = omega arith in (
             held.0 - first,

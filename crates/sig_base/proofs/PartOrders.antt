@@ -61,6 +61,6 @@ module _ (part : RowPart) (rows : List AcceptedRow) (bytes : List ℕ) where
         let parts = found rises in
         ⊎_elim
         (λ before. let less = parts.0 place_of.0 some.0 (omega arith) before in absurd (cc (less, tied)))
-        (λ behind. let greater = parts.1 place_of.0 some.0 behind place_of.1 in absurd (cc (greater, tied)))
+        (λ after. let greater = parts.1 place_of.0 some.0 after place_of.1 in absurd (cc (greater, tied)))
         (cases_lt place_of.0 place),
   )

@@ -143,6 +143,6 @@ module _ (rows : List AcceptedRow) (row : AcceptedRow) where
         let parts = found rises in
         ⊎_elim
         (λ before. let less = parts.0 place_of.0 held.0 (omega arith) before in absurd (cc (less, tied)))
-        (λ behind. let greater = parts.1 place_of.0 held.0 behind place_of.1 in absurd (cc (greater, tied)))
+        (λ after. let greater = parts.1 place_of.0 held.0 after place_of.1 in absurd (cc (greater, tied)))
         (cases_lt place_of.0 place),
   )

@@ -121,22 +121,22 @@ hashes-fail place (bytes ∷ others) e is =
           ]
     ]
 
-fails_behind : (place : ℕ) (before : List (List ℕ)) (other : List ℕ) (after : List (List ℕ))
+fails_after : (place : ℕ) (before : List (List ℕ)) (other : List ℕ) (after : List (List ℕ))
     → AllByRecursion IsHash before → ¬ IsHash other
     → path_hashes_from place (before ++ other ∷ after) ≡ Err (HashLength (place + length before))
-fails_behind place [] other after sound wrong =
+fails_after place [] other after sound wrong =
     let here : place ≡ place + 0 = omega arith in
     rw (hash_or-only_fails (HashLength place) other wrong) (ap (λ n. Err (HashLength n)) here)
-fails_behind place (bytes ∷ before) other after sound wrong =
+fails_after place (bytes ∷ before) other after sound wrong =
     let there : place + 1 + length before ≡ place + suc (length before) = omega arith in
-    rw (hash_or-only (HashLength place) bytes sound.0, fails_behind (place + 1) before other after sound.1 wrong)
+    rw (hash_or-only (HashLength place) bytes sound.0, fails_after (place + 1) before other after sound.1 wrong)
     (ap (λ n. Err (HashLength n)) there)
 
 hashes-only_fail : (all : List (List ℕ)) (index : ℕ) → IsFirstOther all index
     → path_hashes_from 0 all ≡ Err (HashLength index)
 hashes-only_fail all index is =
     let there : 0 + length is.before ≡ index = (let p = is.place in omega arith) in
-    rw (is.split, fails_behind 0 is.before is.other is.after is.sound is.wrong) (ap (λ n. Err (HashLength n)) there)
+    rw (is.split, fails_after 0 is.before is.other is.after is.sound is.wrong) (ap (λ n. Err (HashLength n)) there)
 
 -- ---- the size
 

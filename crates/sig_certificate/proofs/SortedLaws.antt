@@ -75,10 +75,10 @@ module _ {X : Type 0} (key : X → ℕ) where
   same_head x xs y ys up1 up2 first second =
       elim (in_cons y ys x first) [
         | inl e ↦ sym e
-        | inr behind ↦ elim (in_cons x xs y second) [
+        | inr later ↦ elim (in_cons x xs y second) [
           | inl e ↦ e
           | inr after ↦
-              let below = preamble_below y ys up2 x behind in
+              let below = preamble_below y ys up2 x later in
               let above = preamble_below x xs up1 y after in
               absurd (omega (arith, below, above))
         ]
@@ -92,7 +92,7 @@ module _ {X : Type 0} (key : X → ℕ) where
             let lt : key x < key (get_or xs k d) = up 0 (suc k) d (omega arith) (omega (arith, below)) in
             let eq : key x ≡ key (get_or xs k d) = ap key (is ∙ e) in
             absurd (omega (arith, lt, eq))
-        | inr behind ↦ behind
+        | inr later ↦ later
       ]
 
   same_list : (xs ys : List X) → Rises xs → Rises ys → All (Contains ys) xs → All (Contains xs) ys → xs ≡ ys

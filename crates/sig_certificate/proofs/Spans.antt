@@ -24,9 +24,9 @@ pub clipped_part : (bytes : List ℕ) (start end from to : ℕ) → (end ≤ len
 clipped_part bytes start end from to inside outside ordered turned =
     elim (cases_lt (length bytes) end) [
       | inl out ↦ elim (cases_lt to start) [
-        | inl behind ↦
+        | inl after ↦
             let all : to ≡ length bytes = outside out in
-            part-none bytes from to (omega (arith, turned behind))
+            part-none bytes from to (omega (arith, turned after))
             ∙ sym (past_end bytes start end (omega (arith, all)))
         | inr before ↦
             let all : to ≡ length bytes = outside out in
@@ -37,9 +37,9 @@ clipped_part bytes start end from to inside outside ordered turned =
             ∙ sym (take_all (end - start) (drop start bytes) (omega (arith, left, out)))
       ]
       | inr fits ↦ elim (cases_lt to start) [
-        | inl behind ↦
+        | inl after ↦
             let all : to ≡ end = inside fits in
-            part-none bytes from to (omega (arith, turned behind))
+            part-none bytes from to (omega (arith, turned after))
             ∙ sym (part-none bytes start end (omega (arith, all)))
         | inr before ↦
             let all : to ≡ end = inside fits in

@@ -82,33 +82,33 @@ module _ (b : Bundle) (m : VerificationMaterial) (there : b.verification_materia
     told r answers = with_material r (goes b m c r signer answers)
 
     -- what comes after the content, and after the entry
-    abbrev behind_entry : ContentWithSignature → TransparencyLogEntry → Result Checked BundleErrorKind
-    behind_entry content entry = meets_profile b.media_type entry >>= λ _. Ok (made c content entry)
+    abbrev after_entry : ContentWithSignature → TransparencyLogEntry → Result Checked BundleErrorKind
+    after_entry content entry = meets_profile b.media_type entry >>= λ _. Ok (made c content entry)
 
-    abbrev behind_content : ContentWithSignature → Result Checked BundleErrorKind
-    behind_content content = entry_among m.tlog_entries >>= behind_entry content
+    abbrev after_content : ContentWithSignature → Result Checked BundleErrorKind
+    after_content content = entry_among m.tlog_entries >>= after_entry content
 
     pub content_failed : (e : BundleErrorKind) → OrMemory OutOfMemory e (content_with_signature b.content ≡ Err e)
         → Told (Err e)
     content_failed e (inl memory) = told (Err e) (inl memory)
     content_failed e (inr is) =
-        told (Err e) (inr (ap (λ (r : Result ContentWithSignature BundleErrorKind). r >>= behind_content) is))
+        told (Err e) (inr (ap (λ (r : Result ContentWithSignature BundleErrorKind). r >>= after_content) is))
 
     module _ (content : ContentWithSignature) (is_content : content_with_signature b.content ≡ Ok content) where
-      by_content : (r : Result Checked BundleErrorKind) → behind_content content ≡ r → checked b m (Ok c) ≡ r
+      by_content : (r : Result Checked BundleErrorKind) → after_content content ≡ r → checked b m (Ok c) ≡ r
       by_content r is =
-          ap (λ (x : Result ContentWithSignature BundleErrorKind). x >>= behind_content) is_content ∙ is
+          ap (λ (x : Result ContentWithSignature BundleErrorKind). x >>= after_content) is_content ∙ is
 
       pub entry_failed : (e : BundleErrorKind) → entry_among m.tlog_entries ≡ Err e → Told (Err e)
       entry_failed e is =
           told (Err e) (inr (by_content (Err e)
-          (ap (λ (x : Result TransparencyLogEntry BundleErrorKind). x >>= behind_entry content) is)))
+          (ap (λ (x : Result TransparencyLogEntry BundleErrorKind). x >>= after_entry content) is)))
 
       module _ (entry : TransparencyLogEntry) (is_entry : entry_among m.tlog_entries ≡ Ok entry) where
-        by_entry : (r : Result Checked BundleErrorKind) → behind_entry content entry ≡ r → checked b m (Ok c) ≡ r
+        by_entry : (r : Result Checked BundleErrorKind) → after_entry content entry ≡ r → checked b m (Ok c) ≡ r
         by_entry r is =
             by_content r
-            (ap (λ (x : Result TransparencyLogEntry BundleErrorKind). x >>= behind_entry content) is_entry ∙ is)
+            (ap (λ (x : Result TransparencyLogEntry BundleErrorKind). x >>= after_entry content) is_entry ∙ is)
 
         after_profile : (test : Result (Unit {0}) BundleErrorKind) (r : Result (Unit {0}) BundleErrorKind) → test ≡ r
             → (test >>= λ _. Ok (made c content entry)) ≡ (r >>= λ _. Ok (made c content entry))

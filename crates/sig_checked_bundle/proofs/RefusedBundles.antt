@@ -126,9 +126,9 @@ from_statement b h fault cause =
     (rw (h.stated, (faults_have_their_cause h.statement fault).1 cause) refl)
 
 -- what is made of the content, after it
-abbrev behind_content : Bundle → VerificationMaterial → SigningChain → ContentWithSignature
+abbrev after_content : Bundle → VerificationMaterial → SigningChain → ContentWithSignature
     → Result Checked BundleErrorKind
-behind_content b material chain content =
+after_content b material chain content =
     entry_among material.tlog_entries >>= λ entry. meets_profile b.media_type entry >>= λ _. Ok (record {
       certificate = chain.certificate;
       further = chain.further;
@@ -138,7 +138,7 @@ behind_content b material chain content =
     })
 
 from_read : (b : Bundle) (h : HasContent b) (kind : BundleErrorKind)
-    → behind_content b (material_under h) (chain_under h.before)
+    → after_content b (material_under h) (chain_under h.before)
     (record { signature = h.signature; content = h.kept }) ≡ Err kind
     → IsChecked b (Err kind)
 from_read b h kind told =

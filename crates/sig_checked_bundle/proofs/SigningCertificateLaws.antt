@@ -14,7 +14,7 @@ use Rattle.sig_certificate.specs.Certificates.{AreCertificates}
 use Rattle.sig_certificate.specs.Profile.{leaf_refusal}
 use Rattle.sig_certificate.specs.declared.error.X509ReadError.{X509ReadError}
 use Rattle.sig_certificate.specs.declared.error.X509ReadError.TheVariants.{Der, OutOfMemory as NoMemory}
-use Rattle.sig_checked_bundle.specs.SeenValues.{AreUnreadBehind, IsUnreadAt}
+use Rattle.sig_checked_bundle.specs.SeenValues.{AreUnreadAfter, IsUnreadAt}
 use Rattle.sig_checked_bundle.specs.SigningCertificate.{AreRead, IsFirstMalformed, IsLeafAmong, IsLeafOf}
 use Rattle.sig_checked_bundle.specs.SigningCertificate.{IsNoCertificate, IsSigningCertificate, encodings_in, is_root}
 use Rattle.sig_checked_bundle.specs.SigningCertificate.{leaf_among}
@@ -48,22 +48,22 @@ malformed_there (d ∷ ders) (suc index) der [] below there none are = absurd ar
 malformed_there (d ∷ ders) (suc index) der (c ∷ cs) below there none are =
     (c, are.0, malformed_there ders index der cs (omega (arith, below)) there none are.1)
 
-unread_behind : (ders : List (List ℕ)) (index : ℕ) (der item : List ℕ) (cs : List Cert) (e : BundleErrorKind)
+unread_after : (ders : List (List ℕ)) (index : ℕ) (der item : List ℕ) (cs : List Cert) (e : BundleErrorKind)
     → index < length ders → item ≡ get_or ders index item → der ≡ item → AreCertificates (take index ders) cs
     → IsUnreadAt (index + 1) der e
-    → AreUnreadBehind ders e
-unread_behind ders index der item cs e below there seen are (inl memory) = inl memory
-unread_behind ders index der item cs e below there seen are (inr why) =
+    → AreUnreadAfter ders e
+unread_after ders index der item cs e below there seen are (inl memory) = inl memory
+unread_after ders index der item cs e below there seen are (inr why) =
     let got : der ≡ get_or ders index der = rw seen there in
     inr (index, why.0, malformed_there ders index der cs below got why.1 are)
 
-pub behind_refused : (ders : List (List ℕ)) (index : ℕ) (der item : List ℕ) (cs : List Cert) (e : BundleErrorKind)
+pub after_refused : (ders : List (List ℕ)) (index : ℕ) (der item : List ℕ) (cs : List Cert) (e : BundleErrorKind)
     (answer : Result (List Cert) BundleErrorKind) → answer ≡ Err e
     → index < length ders → item ≡ get_or ders index item → der ≡ item → AreCertificates (take index ders) cs
     → IsUnreadAt (index + 1) der e
-    → IfErr answer (AreUnreadBehind ders)
-behind_refused ders index der item cs e answer is below there seen are why =
-    rw is (unread_behind ders index der item cs e below there seen are why)
+    → IfErr answer (AreUnreadAfter ders)
+after_refused ders index der item cs e answer is below there seen are why =
+    rw is (unread_after ders index der item cs e below there seen are why)
 
 -- ---- what the certificates' reading returns
 
@@ -102,7 +102,7 @@ module _ (one : OneCertificate) (ders : List (List ℕ)) (item : List ℕ) (late
       rw whole (read_answers one (first ∷ later) (Err e) (Err e) (0, why.0, why.1) refl)
 
   -- a later one is none
-  unread_later : (c : Cert) (e : BundleErrorKind) → IsCertificate first c → AreUnreadBehind later e
+  unread_later : (c : Cert) (e : BundleErrorKind) → IsCertificate first c → AreUnreadAfter later e
       → AnswersOnly {X = SigningChain} OutOfMemory (IsLeafOf ders) (Err e)
   unread_later c e is (inl memory) = memory_answers ders e memory
   unread_later c e is (inr why) =
@@ -115,7 +115,7 @@ module _ (one : OneCertificate) (ders : List (List ℕ)) (item : List ℕ) (late
   first_answers e answer is why = rw is (unread_first e why)
 
   pub later_answers : (e : BundleErrorKind) (answer : Result SigningChain BundleErrorKind) → answer ≡ Err e → (c : Cert)
-      → IsCertificate first c → AreUnreadBehind later e
+      → IsCertificate first c → AreUnreadAfter later e
       → AnswersOnly OutOfMemory (IsLeafOf ders) answer
   later_answers e answer is c read why = rw is (unread_later c e read why)
 

@@ -23,6 +23,6 @@ abbrev pub IsUnreadAt : ℕ → List ℕ → BundleErrorKind → Type 0
 IsUnreadAt index der e = OrMemory OutOfMemory e ((e ≡ CertificateMalformed index) × IsNoCertificate der)
 
 -- why the encodings after the first are not read
-abbrev pub AreUnreadBehind : List (List ℕ) → BundleErrorKind → Type 0
-AreUnreadBehind ders e =
+abbrev pub AreUnreadAfter : List (List ℕ) → BundleErrorKind → Type 0
+AreUnreadAfter ders e =
     OrMemory OutOfMemory e ((index : ℕ) × (e ≡ CertificateMalformed (index + 1)) × IsFirstMalformed ders index)

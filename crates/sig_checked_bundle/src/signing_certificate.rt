@@ -4,7 +4,7 @@
 ghost use Rattle.std.specs.Prelude.{◌≡◌, IfOk, IfErr, option_map};
 ghost use Rattle.std.specs.List.{list_any};
 ghost use Rattle.sig_bundle.specs.AnswersOnly.{AnswersOnly};
-ghost use Rattle.sig_checked_bundle.specs.SeenValues.{AreUnreadBehind, IsUnreadAt};
+ghost use Rattle.sig_checked_bundle.specs.SeenValues.{AreUnreadAfter, IsUnreadAt};
 ghost use Rattle.sig_checked_bundle.specs.SigningCertificate.{IsSigningCertificate, encodings_in, is_root};
 ghost use Rattle.sig_certificate.specs.Certificate.{IsCertificate};
 ghost use Rattle.sig_certificate.specs.Certificates.{AreCertificates};
@@ -99,7 +99,7 @@ fn read_certificate(alloc: Global, index: usize, der: &[u8]) -> Result<Certifica
 /// first that cannot be read.
 fn read_further(alloc: Global, ders: &[Bytes]) -> Result<OwnedList<Certificate>, BundleErrorKind>
     ensures found { IfOk result (AreCertificates ders.now) }
-    ensures refused { IfErr result (AreUnreadBehind ders.now) }
+    ensures refused { IfErr result (AreUnreadAfter ders.now) }
 {
     let mut further = OwnedList::new(alloc);
     'ders: for (index, der) in ders.iter().enumerate() {

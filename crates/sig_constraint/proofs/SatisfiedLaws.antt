@@ -56,20 +56,20 @@ module _ {C : Type 0} (test : C → Bool) where
       by true h = h
       by false h = later n (n + suc k) (failing_from test (n + 1) cs) h
 
-  abbrev FailsBehind : ℕ → ℕ → List C → Type 0
-  FailsBehind n m cs = (k : ℕ) × ((m ≡ n + k) × FailsAt cs k)
+  abbrev FailsAfter : ℕ → ℕ → List C → Type 0
+  FailsAfter n m cs = (k : ℕ) × ((m ≡ n + k) × FailsAt cs k)
 
-  fails_later : (n m : ℕ) (x : C) (cs : List C) → FailsBehind (n + 1) m cs → FailsBehind n m (x ∷ cs)
+  fails_later : (n m : ℕ) (x : C) (cs : List C) → FailsAfter (n + 1) m cs → FailsAfter n m (x ∷ cs)
   fails_later n m x cs (k, (at, (c, (there, fails)))) = (suc k, (omega (arith, at), (c, (there, fails))))
 
   -- and only these are
-  fails_at : (n m : ℕ) (cs : List C) → Contains (failing_from test n cs) m → FailsBehind n m cs
+  fails_at : (n m : ℕ) (cs : List C) → Contains (failing_from test n cs) m → FailsAfter n m cs
   fails_at n m [] (k, below, is) = absurd (omega (arith, below))
   fails_at n m (x ∷ cs) h = by (test x) refl (λ more. fails_later n m x cs (fails_at (n + 1) m cs more)) h where
     by : (b : Bool) → test x ≡ b
-        → (Contains (failing_from test (n + 1) cs) m → FailsBehind n m (x ∷ cs))
+        → (Contains (failing_from test (n + 1) cs) m → FailsAfter n m (x ∷ cs))
         → Contains (cond b (failing_from test (n + 1) cs) (n ∷ failing_from test (n + 1) cs)) m
-        → FailsBehind n m (x ∷ cs)
+        → FailsAfter n m (x ∷ cs)
     by true e next h = next h
     by false e next h =
         elim (here_or_later n m (failing_from test (n + 1) cs) h) [

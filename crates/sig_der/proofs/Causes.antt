@@ -250,11 +250,11 @@ complete_four (a ∷ b ∷ c ∷ d ∷ rest) fits is = absurd (let good = nonzer
     sym (cond-false (eqb a 0) (Err Length) (Ok (a * 16777216 + b * 65536 + c * 256 + d, rest)) good) ∙ is in cc)
 
 -- the octets after the first complete the length
-behind : (read : List ℕ → Result (ℕ × List ℕ) DerError) (first : ℕ) (more : List ℕ) → IsBytes (first ∷ more)
+read_after : (read : List ℕ → Result (ℕ × List ℕ) DerError) (first : ℕ) (more : List ℕ) → IsBytes (first ∷ more)
     → ((bytes : List ℕ) → length_at (first ∷ bytes) ≡ read bytes)
     → (IsBytes more → read more ≡ Err Truncated → Completes read more) → length_at (first ∷ more) ≡ Err Truncated
     → Completes length_at (first ∷ more)
-behind read first more fits form complete is =
+read_after read first more fits form complete is =
     let c = complete (IsBytes-tail first more fits) (sym (form more) ∙ is) in
     record {
       last = c.last;
@@ -295,16 +295,16 @@ complete_length (first ∷ more) fits is =
     elim (cases_Bool (ltb first 128)) [
       | inl low ↦ absurd (let no = sym (short_form first more low) ∙ is in cc)
       | inr high ↦ elim (cases_Bool (eqb first 129)) [
-        | inl is_129 ↦ behind one_byte first more fits (form_129 first (eqb-true first 129 is_129))
+        | inl is_129 ↦ read_after one_byte first more fits (form_129 first (eqb-true first 129 is_129))
             (complete_one more) is
         | inr not_129 ↦ elim (cases_Bool (eqb first 130)) [
-          | inl is_130 ↦ behind two_bytes first more fits (form_130 first (eqb-true first 130 is_130))
+          | inl is_130 ↦ read_after two_bytes first more fits (form_130 first (eqb-true first 130 is_130))
               (complete_two more) is
           | inr not_130 ↦ elim (cases_Bool (eqb first 131)) [
-            | inl is_131 ↦ behind three_bytes first more fits (form_131 first (eqb-true first 131 is_131))
+            | inl is_131 ↦ read_after three_bytes first more fits (form_131 first (eqb-true first 131 is_131))
                 (complete_three more) is
             | inr not_131 ↦ elim (cases_Bool (eqb first 132)) [
-              | inl is_132 ↦ behind four_bytes first more fits (form_132 first (eqb-true first 132 is_132))
+              | inl is_132 ↦ read_after four_bytes first more fits (form_132 first (eqb-true first 132 is_132))
                   (complete_four more) is
               | inr not_132 ↦
                   absurd (let no = sym (no_form first more high not_129 not_130 not_131 not_132) ∙ is in cc)

@@ -45,9 +45,9 @@ record Tells {A : Type 0} (f : A → Collected) (Good : A → Type 0) (Cause : S
   caused : (x : A) (fault : SubjectFault) → f x ≡ Err fault → Cause fault x
   told : (x : A) (fault : SubjectFault) → Cause fault x → f x ≡ Err fault
 
-behind : {A : Type 0} (Good Bad : A → Type 0) (x : A) (xs : List A) → Good x → IsFirst Good Bad xs
+good_first : {A : Type 0} (Good Bad : A → Type 0) (x : A) (xs : List A) → Good x → IsFirst Good Bad xs
     → IsFirst Good Bad (x ∷ xs)
-behind Good Bad x xs good i =
+good_first Good Bad x xs good i =
     record {
       before = x ∷ i.before;
       first = i.first;
@@ -83,7 +83,7 @@ step-caused : {A : Type 0} (f : A → Collected) (Good : A → Type 0) (Cause : 
 step-caused f Good Cause t x xs fault (Err other) rest is is_rest later e =
     record { before = []; first = x; after = xs; whole = refl; good = tt; bad = t.caused x fault (is ∙ e) }
 step-caused f Good Cause t x xs fault (Ok ds) (Err other) is is_rest later e =
-    behind Good (Cause fault) x xs (t.good x ds is) (later (is_rest ∙ e))
+    good_first Good (Cause fault) x xs (t.good x ds is) (later (is_rest ∙ e))
 step-caused f Good Cause t x xs fault (Ok ds) (Ok more) is is_rest later e = absurd cc
 
 each-caused : {A : Type 0} (f : A → Collected) (Good : A → Type 0) (Cause : SubjectFault → A → Type 0)

@@ -3,7 +3,7 @@ use Rattle.std.proofs.Common.{◌≡◌, List, [], ◌∷◌, ◌++◌, refl}
 use Rattle.sig_json.specs.Writing.{TreeMember, members_into, put_some}
 use Rattle.sig_json.specs.Data.{Members}
 
-pub members_behind : (ms : Members) (rows others : List TreeMember)
+pub members_after : (ms : Members) (rows others : List TreeMember)
     → members_into ms (rows ++ others) ≡ members_into (members_into ms rows) others
-members_behind ms [] others = refl
-members_behind ms (row ∷ rows) others = members_behind (put_some row.0 row.1 ms) rows others
+members_after ms [] others = refl
+members_after ms (row ∷ rows) others = members_after (put_some row.0 row.1 ms) rows others

@@ -147,7 +147,7 @@ fn with_head_unsigned(
 // ---- `origin`
 
 /// The refusal of a head that has not the origin of the first one.
-#[tactic(auto, using(crate::proofs::Members::members_behind))]
+#[tactic(auto, using(crate::proofs::Members::members_after))]
 fn origin_object(
     alloc: Global,
     request: &AuditRequest,
@@ -198,7 +198,7 @@ fn with_head_origin(
 // ---- `consistency`
 
 /// The refusal of a head whose tree is not shown to have that of the head before it as its first leaves.
-#[tactic(auto, using(crate::proofs::Members::members_behind))]
+#[tactic(auto, using(crate::proofs::Members::members_after))]
 fn growth_object(
     alloc: Global,
     request: &AuditRequest,
@@ -248,7 +248,7 @@ fn with_tree(
 // ---- `inclusion`
 
 /// The refusal of a watched entry that is not shown to be in the tree of its head.
-#[tactic(auto, using(crate::proofs::Members::members_behind))]
+#[tactic(auto, using(crate::proofs::Members::members_after))]
 fn inclusion_object(
     alloc: Global,
     request: &AuditRequest,

@@ -62,14 +62,14 @@ module _ (proofs : ProofsAreRead) where
     one_list : (bundles : List (List ℕ)) (xs ys : List LoggedEntry) → AreVerified k gate x bundles xs
         → AreVerified k gate x bundles ys → xs ≡ ys
     one_list [] xs ys p q = p ∙ sym q
-    one_list (bundle ∷ later) xs ys (inl (is, (a, others, made, of, rest))) (inl (was, (b, more, said, to, behind))) =
+    one_list (bundle ∷ later) xs ys (inl (is, (a, others, made, of, rest))) (inl (was, (b, more, said, to, after))) =
         made
         ∙ ap (λ (e : LoggedEntry). e ∷ others) (one_of_bundle bundle a b of to)
-        ∙ ap (λ (es : List LoggedEntry). b ∷ es) (one_list later others more rest behind)
+        ∙ ap (λ (es : List LoggedEntry). b ∷ es) (one_list later others more rest after)
         ∙ sym said
-    one_list (bundle ∷ later) xs ys (inl (is, first)) (inr (none, behind)) = absurd (none is)
+    one_list (bundle ∷ later) xs ys (inl (is, first)) (inr (none, after)) = absurd (none is)
     one_list (bundle ∷ later) xs ys (inr (none, rest)) (inl (is, first)) = absurd (none is)
-    one_list (bundle ∷ later) xs ys (inr (none, rest)) (inr (never, behind)) = one_list later xs ys rest behind
+    one_list (bundle ∷ later) xs ys (inr (none, rest)) (inr (never, after)) = one_list later xs ys rest after
 
     pub one_decision : (a b : Bool) → IsDecided k gate x a → IsDecided k gate x b → a ≡ b
     one_decision a b is was =

@@ -53,9 +53,9 @@ stops_here logs after first later is stop =
     not_added logs after stop.one (subst (λ (o : OriginKey). IsAdded logs o after) same is) stops
 
 -- one that stops after the first stops among the later ones
-stops_behind : (logs after : Logs) (first : OriginKey) (later : List OriginKey) (place : ℕ) → IsAdded logs first after
+stops_after : (logs after : Logs) (first : OriginKey) (later : List OriginKey) (place : ℕ) → IsAdded logs first after
     → StopsAt logs (first ∷ later) (suc place) → StopsAt after later place
-stops_behind logs after first later place is stop =
+stops_after logs after first later place is stop =
     let (mid, step, rest) = stop.added in
     let same = one_added logs mid after first step is in
     record {
@@ -72,7 +72,7 @@ none_stops : (logs after : Logs) (all : List OriginKey) (place : ℕ) → AreAdd
 none_stops logs after [] place are stop = (let here = stop.here in cc)
 none_stops logs after (first ∷ later) zero (next, step, rest) stop = stops_here logs next first later step stop
 none_stops logs after (first ∷ later) (suc place) (next, step, rest) stop =
-    none_stops next after later place rest (stops_behind logs next first later place step stop)
+    none_stops next after later place rest (stops_after logs next first later place step stop)
 
 one_stop : (logs : Logs) (all : List OriginKey) (p q : ℕ) → StopsAt logs all p → StopsAt logs all q → p ≡ q
 one_stop logs [] p q stop other = absurd (let here = stop.here in cc)
@@ -84,8 +84,8 @@ one_stop logs (first ∷ later) (suc p) zero stop other =
 one_stop logs (first ∷ later) (suc p) (suc q) stop other =
     let (next, step, rest) = stop.added in
     ap suc
-    (one_stop next later p q (stops_behind logs next first later p step stop)
-    (stops_behind logs next first later q step other))
+    (one_stop next later p q (stops_after logs next first later p step stop)
+    (stops_after logs next first later q step other))
 
 -- ---- both
 

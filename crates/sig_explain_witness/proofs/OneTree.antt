@@ -70,12 +70,12 @@ module _ (rows : List AcceptedRow) where
       → IsShownWalk rows standing texts xs after → IsShownWalk rows standing texts ys last → xs ≡ ys
   one_walk standing [] xs ys after last (none, stays) (too, stayed) = none ∙ sym too
   one_walk standing (text ∷ later) xs ys after last (a, next, others, split, step, rest)
-      (b, second, more, cut, stepped, behind) =
+      (b, second, more, cut, stepped, walked) =
       let same = one_shown standing text a b next second step stepped in
       let moved = subst (λ (s : Standing). IsShownWalk rows s later others after) same.standing rest in
       split
       ∙ ap (λ (d : Data). d ∷ others) same.tree
-      ∙ ap (λ (ds : List Data). b ∷ ds) (one_walk second later others more after last moved behind)
+      ∙ ap (λ (ds : List Data). b ∷ ds) (one_walk second later others more after last moved walked)
       ∙ sym cut
 
 module _ (request : WitnessRequest) where

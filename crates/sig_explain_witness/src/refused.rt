@@ -196,7 +196,7 @@ fn old_size_object(alloc: Global, kept: u64, text: &UpdateText) -> Result<Object
 }
 
 /// The refusal of an update whose tree is not shown to have that of the kept head as its first leaves.
-#[tactic(auto, using(crate::proofs::Members::members_behind))]
+#[tactic(auto, using(crate::proofs::Members::members_after))]
 fn growth_object(
     alloc: Global,
     witness: &Witness,

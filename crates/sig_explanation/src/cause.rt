@@ -1,8 +1,8 @@
 //! The cause of a refusal: the names of an error's variants, the outermost first.
 ghost use Rattle.std.specs.Prelude.{◌≡◌, ◌++◌, ◌∷◌, [], IfOk, OnOk, codes};
 ghost use Rattle.sig_json.specs.Writing.{members};
-ghost use Rattle.sig_explanation.specs.Cause.{behind_bundle, behind_certificate, behind_offline, behind_profile, behind_sct};
-ghost use Rattle.sig_explanation.specs.Cause.{behind_validation, bundle_cause, cause, certificate_cause, profile_cause};
+ghost use Rattle.sig_explanation.specs.Cause.{after_bundle, after_certificate, after_offline, after_profile, after_sct};
+ghost use Rattle.sig_explanation.specs.Cause.{after_validation, bundle_cause, cause, certificate_cause, profile_cause};
 ghost use Rattle.sig_explanation.specs.Cause.{sct_cause, validation_cause};
 ghost use Rattle.sig_json.specs.Data.{put};
 ghost use Rattle.sig_shown.specs.ShownValues.{texts_tree};
@@ -61,17 +61,17 @@ pub(crate) fn cause(alloc: Global, error: &OfflineError) -> Result<OwnedList<Tex
 {
     let mut names = OwnedList::new(alloc);
     push(alloc, &mut names, offline_name(error))?;
-    push_behind(alloc, &mut names, error)?;
+    push_after(alloc, &mut names, error)?;
     Ok(names)
 }
 
 /// Adds the names after the first.
-fn push_behind(
+fn push_after(
     alloc: Global,
     names: &mut OwnedList<Text>,
     error: &OfflineError,
 ) -> Result<(), OutOfMemory>
-    ensures { OnOk result (names.new ≡ names.old ++ behind_offline error.now) }
+    ensures { OnOk result (names.new ≡ names.old ++ after_offline error.now) }
 {
     match error {
         OfflineError::Json(_, error) => push(alloc, names, json_name(error)),

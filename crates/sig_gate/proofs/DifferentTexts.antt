@@ -37,10 +37,10 @@ shorter b [] among = absurd (none-among b among)
 shorter b (d ∷ ds) among = by (shorter b ds) (bytes_eq b d) refl where
   by : (Contains ds b → length ds ≡ suc (length (without b ds))) → (t : Bool) → bytes_eq b d ≡ t
       → length (d ∷ ds) ≡ suc (length (if t then ds else d ∷ without b ds))
-  by behind true is = omega arith
-  by behind false is = elim (among-first d ds b among) [
+  by after true is = omega arith
+  by after false is = elim (among-first d ds b among) [
     | inl e ↦ let same : bytes_eq b d ≡ true = (bytes_decides b d).1 (sym e) in absurd cc
-    | inr rest ↦ let one = behind rest in omega (arith, one)
+    | inr rest ↦ let one = after rest in omega (arith, one)
   ]
 
 still : (b c : List ℕ) (ds : Texts) → Contains ds c → c ≢ b → Contains (without b ds) c
@@ -48,13 +48,13 @@ still b c [] among apart = among
 still b c (d ∷ ds) among apart = by (λ rest. still b c ds rest apart) (bytes_eq b d) refl where
   by : (Contains ds c → Contains (without b ds) c) → (t : Bool) → bytes_eq b d ≡ t
       → Contains (if t then ds else d ∷ without b ds) c
-  by behind true is = elim (among-first d ds c among) [
+  by after true is = elim (among-first d ds c among) [
     | inl e ↦ absurd (apart (sym e ∙ sym ((bytes_decides b d).0 is)))
     | inr rest ↦ rest
   ]
-  by behind false is = elim (among-first d ds c among) [
+  by after false is = elim (among-first d ds c among) [
     | inl e ↦ first-among d (without b ds) c e
-    | inr rest ↦ later-among d (without b ds) c (behind rest)
+    | inr rest ↦ later-among d (without b ds) c (after rest)
   ]
 
 each_still : (b : List ℕ) (ds bs : Texts) → AllByRecursion (Contains ds) bs → ¬ Contains bs b

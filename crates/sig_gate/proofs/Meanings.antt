@@ -72,18 +72,18 @@ origin_tells origin (Refused link ∷ later) = origin_tells origin later
 origin_tells origin (Verified entry ∷ later) =
     by (checkpoint_of_origin origin entry.proof.checkpoint) (list_any (shows_origin origin) later)
     (origin_found origin entry entry.proof.checkpoint refl) (origin_tells origin later) where
-      by : (here behind : Bool) → Tells here (IsOfOrigin origin entry)
-          → Tells behind (OfSome (IsOfOrigin origin) (entries_of later))
-          → Tells (here || behind) (OfSome (IsOfOrigin origin) (entry ∷ entries_of later))
-      by true behind here rest = (
+      by : (here after : Bool) → Tells here (IsOfOrigin origin entry)
+          → Tells after (OfSome (IsOfOrigin origin) (entries_of later))
+          → Tells (here || after) (OfSome (IsOfOrigin origin) (entry ∷ entries_of later))
+      by true after here rest = (
         (λ e. some-first (IsOfOrigin origin) entry (entries_of later) (here.0 refl)),
         (λ some. refl),
       )
-      by false behind here rest = (
+      by false after here rest = (
         (λ e. some-later (IsOfOrigin origin) entry (entries_of later) (rest.0 e)),
         (λ some. elim (some-cases (IsOfOrigin origin) entry (entries_of later) some) [
           | inl is ↦ let e : false ≡ true = here.1 is in absurd cc
-          | inr behind_it ↦ rest.1 behind_it
+          | inr after_it ↦ rest.1 after_it
         ]),
       )
 
@@ -133,7 +133,7 @@ size_from size largest (entry ∷ later) =
         | inl before ↦ inl (here.1 (inl before))
         | inr some ↦ elim (some-cases (IsOfSize size) entry later some) [
           | inl is ↦ inl (here.1 (inr is))
-          | inr behind ↦ inr behind
+          | inr after ↦ inr after
         ]
       ])),
     )

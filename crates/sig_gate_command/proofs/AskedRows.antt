@@ -39,9 +39,9 @@ asked-of i rows row (inr is) = (
 
 pub all-rows-one : QuestionsAreOneList → (is : List Inputs) (a b : List AcceptedRow) → AreRows is a → AreRows is b → a ≡ b
 all-rows-one one [] a b all other = all ∙ sym other
-all-rows-one one (i ∷ is) a b (first, rest, split, its, all) (also, more, cut, others, behind) =
+all-rows-one one (i ∷ is) a b (first, rest, split, its, all) (also, more, cut, others, after) =
     split ∙ ap (λ front. front ++ rest) (one-rows one i first also its others)
-    ∙ ap (λ back. also ++ back) (all-rows-one one is rest more all behind) ∙ sym cut
+    ∙ ap (λ back. also ++ back) (all-rows-one one is rest more all after) ∙ sym cut
 
 pub rows-single : (i : Inputs) (rows : List AcceptedRow) → AreRowsOf i rows → AreRows (i ∷ []) rows
 rows-single i rows its = (rows, [], sym (append-nil rows), its, refl)
@@ -49,12 +49,12 @@ rows-single i rows its = (rows, [], sym (append-nil rows), its, refl)
 pub rows-joined : (xs ys : List Inputs) (a b : List AcceptedRow) → AreRows xs a → AreRows ys b
     → AreRows (xs ++ ys) (a ++ b)
 rows-joined [] ys a b none all = subst (λ (front : List AcceptedRow). AreRows ys (front ++ b)) (sym none) all
-rows-joined (x ∷ xs) ys a b (first, rest, split, its, all) behind = (
+rows-joined (x ∷ xs) ys a b (first, rest, split, its, all) after = (
   first,
   rest ++ b,
   ap (λ front. front ++ b) split ∙ append_assoc first rest b,
   its,
-  rows-joined xs ys rest b all behind,
+  rows-joined xs ys rest b all after,
 )
 
 -- what the first and the others ask for
@@ -100,7 +100,7 @@ asked-among (i ∷ is) rows row (first, rest, split, its, all) =
           (elim (first-or-later i j is inside) [
             | inl same ↦
                 Contains-append_left first rest row (here_asked.1 (subst (λ (k : Inputs). AsksFor k row) (sym same) asks))
-            | inr behind ↦ Contains-append_right first rest row (there_asked.1 (j, behind, asks))
+            | inr after ↦ Contains-append_right first rest row (there_asked.1 (j, after, asks))
           ])),
     )
 
@@ -131,7 +131,7 @@ size-of-one : (rows : List AcceptedRow) (row : AcceptedRow) → Contains rows ro
 size-of-one [] row there = absurd (empty_has row there)
 size-of-one (one ∷ rest) row there = elim (first-or-later one row rest there) [
   | inl same ↦ let is = ap (λ r. rows_size (r ∷ [])) same in omega (arith, is)
-  | inr behind ↦ omega (arith, size-of-one rest row behind)
+  | inr after ↦ omega (arith, size-of-one rest row after)
 ]
 
 pub text-of-one : (rows : List AcceptedRow) (row : AcceptedRow) → Contains rows row

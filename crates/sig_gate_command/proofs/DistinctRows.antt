@@ -4,7 +4,7 @@ use Rattle.std.specs.Prelude.{Contains}
 use Rattle.sig_base.specs.declared.checker.AcceptedRow.{AcceptedRow}
 use Rattle.sig_gate_command.specs.Questions.{each_once}
 use Rattle.sig_questions.proofs.RowLaws.{empty_has}
-use Rattle.sig_witness_command.proofs.DistinctRows.{absent-behind, once-different, once-has, once-only, once-parts, there-same}
+use Rattle.sig_witness_command.proofs.DistinctRows.{absent-after, once-different, once-has, once-only, once-parts, there-same}
 use Rattle.sig_witness_command.specs.Suffice.{AreDifferent}
 
 -- each of them is there, and no other
@@ -31,4 +31,4 @@ pub once-new : (rows : List AcceptedRow) (row : AcceptedRow) → ¬ Contains row
     → each_once (rows ++ row ∷ []) ≡ each_once rows ++ row ∷ []
 once-new rows row absent =
     once-parts [] rows (row ∷ [])
-    ∙ absent-behind (each_once rows) row (λ there. absent ((once-same rows row).0 there))
+    ∙ absent-after (each_once rows) row (λ there. absent ((once-same rows row).0 there))

@@ -7,7 +7,7 @@ use Rattle.sig_gate.specs.declared.verdict.BundleVerdict.{BundleVerdict}
 use Rattle.sig_gate.specs.declared.verdict.BundleVerdict.TheVariants.{Verified, Refused}
 use Rattle.sig_questions.proofs.Fronts.{after_issuer, front_alike, issuer_unasked}
 use Rattle.sig_questions.specs.Questions.{HoldsUnasked, SameLinks, accepting, front_links, question_links}
-use Rattle.sig_verify.proofs.JudgedLaws.{all_as, all_joined, fails_as, fails_behind, fails_front}
+use Rattle.sig_verify.proofs.JudgedLaws.{all_as, all_joined, fails_after, fails_as, fails_front}
 use Rattle.sig_verify.specs.Links.{EveryChainLinkHolds, HoldsOf, Inputs, Outside, chain_links}
 use Rattle.sig_verify.specs.declared.link.Link.{Link}
 use Rattle.sig_verify.specs.declared.link.Link.TheVariants.{Issuer}
@@ -17,7 +17,7 @@ use Rattle.sig_verify.specs.declared.link.Link.TheVariants.{Issuer}
 all-parts : (P : Link → Type 0) (xs ys : List Link) → AllByRecursion P (xs ++ ys)
     → AllByRecursion P xs × AllByRecursion P ys
 all-parts P [] ys all = (tt, all)
-all-parts P (x ∷ xs) ys all = let (front, behind) = all-parts P xs ys all.1 in ((all.0, front), behind)
+all-parts P (x ∷ xs) ys all = let (front, after) = all-parts P xs ys all.1 in ((all.0, front), after)
 
 fails-parts : (P : Link → Type 0) (xs ys : List Link) (link : Link) → FailsFirst P (xs ++ ys) link
     → FailsFirst P xs link ⊎ (AllByRecursion P xs × FailsFirst P ys link)
@@ -25,7 +25,7 @@ fails-parts P [] ys link fails = inr (tt, fails)
 fails-parts P (x ∷ xs) ys link (inl now) = inl (inl now)
 fails-parts P (x ∷ xs) ys link (inr (holds, later)) = elim (fails-parts P xs ys link later) [
   | inl front ↦ inl (inr (holds, front))
-  | inr (all, behind) ↦ inr ((holds, all), behind)
+  | inr (all, after) ↦ inr ((holds, all), after)
 ]
 
 -- ---- whatever is accepted
@@ -52,14 +52,14 @@ module _ (o p : Outside) (i : Inputs) (agree : IsOpen i → SameLinks i o p) whe
     | inl front ↦
         fails_front (HoldsOf p i) front_links (Issuer ∷ after_issuer) link
         (fails_as (HoldsOf o i) (HoldsOf p i) front_links link (front_alike o p i) front)
-    | inr (all, behind) ↦ by all behind
+    | inr (all, after) ↦ by all after
   ]
     where
       by : AllByRecursion (HoldsOf o i) front_links → FailsFirst (HoldsOf o i) (Issuer ∷ after_issuer) link
           → FailsFirst (HoldsOf p i) chain_links link
       by all (inl (denied, is)) =
           let front = all_as (HoldsOf o i) (HoldsOf p i) front_links (front_alike o p i) all in
-          fails_behind (HoldsOf p i) front_links (Issuer ∷ after_issuer) link front
+          fails_after (HoldsOf p i) front_links (Issuer ∷ after_issuer) link front
           (inl ((λ issuer. denied (((agree (opened p i front issuer)).each Issuer).1 issuer)), is))
       by all (inr (issuer, later)) = ((agree (opened o i all issuer)).first link).0 fails
 

@@ -102,10 +102,10 @@ long-questions text long = unasked text no_request (inl (long-manifest text long
 -- ---- a list that is written can be given back
 
 pub lists_given_back : GateListsAreGivenBack
-lists_given_back front behind list reply is lists =
+lists_given_back front after list reply is lists =
     let has = is.succeeds.0 (ap (λ (r : Reply). r.status) lists) in
     let made = is.lists has.parts has.rows has.of has in
-    wherever_put front behind list (each_once has.rows) (sym lists ∙ made.1) has.fit.beside
+    wherever_put front after list (each_once has.rows) (sym lists ∙ made.1) has.fit.beside
 
 -- ---- the status is small
 

@@ -67,7 +67,7 @@ in-mapped : {X Y : Type 0} (f : X → Y) (xs : List X) (x : X) → Contains xs x
 in-mapped {X} f [] x there = absurd (empty_has x there)
 in-mapped {X} f (y ∷ ys) x there = elim (first-or-later y x ys there) [
   | inl same ↦ subst (λ (z : X). Contains (f y ∷ map f ys) (f z)) same (here (f y) (map f ys))
-  | inr behind ↦ later (f y) (f x) (map f ys) (in-mapped f ys x behind)
+  | inr after ↦ later (f y) (f x) (map f ys) (in-mapped f ys x after)
 ]
 
 in-artifact : (gate : Gate) (x : Asked) (root bundle : List ℕ) → text_lookup x.root gate.roots ≡ Some root
@@ -83,8 +83,8 @@ in-all gate (y ∷ ys) x i there inside = elim (first-or-later y x ys there) [
   | inl same ↦
       Contains-append_left (artifact_inputs gate y) (inputs_of_all gate ys) i
       (subst (λ (z : Asked). Contains (artifact_inputs gate z) i) (sym same) inside)
-  | inr behind ↦
-      Contains-append_right (artifact_inputs gate y) (inputs_of_all gate ys) i (in-all gate ys x i behind inside)
+  | inr after ↦
+      Contains-append_right (artifact_inputs gate y) (inputs_of_all gate ys) i (in-all gate ys x i after inside)
 ]
 
 -- ---- the verdicts by two lists of accepted signatures
@@ -151,14 +151,14 @@ module _ (suffice : QuestionsSuffice) (gate : Gate) (one other : List AcceptedRo
               others,
               split,
               its,
-              entries-same rest others (λ b behind. inside b (later bundle b rest behind)) are,
+              entries-same rest others (λ b after. inside b (later bundle b rest after)) are,
             ),
           )
       entries-same (bundle ∷ rest) entries inside (inr (unverified, are)) =
           inr (
             λ verified. unverified (verified-same suffice gate other one (back-agree gate one other agree) x there bundle
                 (inside bundle (here bundle rest)) verified),
-            entries-same rest entries (λ b behind. inside b (later bundle b rest behind)) are,
+            entries-same rest entries (λ b after. inside b (later bundle b rest after)) are,
           )
 
       artifact-same : (verdict : Verdict) → IsArtifactJudged (checker_with one) gate x verdict

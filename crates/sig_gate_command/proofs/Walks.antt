@@ -99,9 +99,9 @@ pub joined : (xs ys : List Inputs) (before : List AcceptedRow) (old new : RowLis
     → ((so_far : List AcceptedRow) → IsListSoFar so_far old → HasAddedOf ys so_far new true)
     → HasAddedOf (xs ++ ys) before new true
 joined xs ys before old new (its, are, listed) more =
-    let (others, behind, all) = more (before ++ its) listed in (
+    let (others, after, all) = more (before ++ its) listed in (
       its ++ others,
-      rows-joined xs ys its others are behind,
+      rows-joined xs ys its others are after,
       subst (λ (rows : List AcceptedRow). IsListSoFar rows new) (append_assoc before its others) all,
     )
 
@@ -112,15 +112,15 @@ pub past : QuestionsAreOneList → (xs ys zs : List Inputs) (before : List Accep
     → HasAddedOf (xs ++ (ys ++ zs)) before new false
 past one xs ys zs before old new (its, are, listed) none rows all within =
     let cut = rows-cut xs (ys ++ zs) rows all in
-    let behind = rows-cut ys zs cut.back cut.others in
+    let after = rows-cut ys zs cut.back cut.others in
     let same : cut.front ≡ its = all-rows-one one xs cut.front its cut.first are in
-    let whole : before ++ rows ≡ ((before ++ its) ++ behind.front) ++ behind.back =
+    let whole : before ++ rows ≡ ((before ++ its) ++ after.front) ++ after.back =
     ap (λ front. before ++ front) (cut.whole ∙ ap (λ front. front ++ cut.back) same
-    ∙ ap (λ back. its ++ back) behind.whole)
-    ∙ sym (append_assoc before its (behind.front ++ behind.back))
-    ∙ sym (append_assoc (before ++ its) behind.front behind.back) in
-    none (before ++ its) listed behind.front behind.first
-    (within-front new.most ((before ++ its) ++ behind.front) behind.back
+    ∙ ap (λ back. its ++ back) after.whole)
+    ∙ sym (append_assoc before its (after.front ++ after.back))
+    ∙ sym (append_assoc (before ++ its) after.front after.back) in
+    none (before ++ its) listed after.front after.first
+    (within-front new.most ((before ++ its) ++ after.front) after.back
     (subst (AreWithin new.most) whole within))
 
 -- the list is of some signatures afterwards

@@ -39,5 +39,5 @@ GateRowsAreEachOnce =
 -- request may have.
 abbrev pub GateListsAreGivenBack : Type 0
 GateListsAreGivenBack =
-    (front behind list : List ℕ) (reply : Reply) → IsGateQuestionsReply (front ++ behind) reply → reply ≡ listed list
-    → length (front ++ (accepted_name ++ (list ++ behind))) ≤ most_bytes
+    (front after list : List ℕ) (reply : Reply) → IsGateQuestionsReply (front ++ after) reply → reply ≡ listed list
+    → length (front ++ (accepted_name ++ (list ++ after))) ≤ most_bytes

@@ -17,7 +17,7 @@ use Rattle.sig_manifest.specs.Artifact.{Asked}
 use Rattle.sig_manifest.specs.Manifest.{Gate, manifest_view, with_accepted}
 use Rattle.sig_manifest.specs.Read.{HasOtherMembers, IsManifestWith, IsReadAs, IsRefused, Parts, manifest_in, manifest_of}
 use Rattle.sig_manifest.specs.Read.{parts_view, unless_unknown}
-use Rattle.sig_manifest.specs.Unknown.{AreNamed, IsBehindNamed, IsNamedIn, IsUnknownPolicy, IsUnknownRoot}
+use Rattle.sig_manifest.specs.Unknown.{AreNamed, IsAfterNamed, IsNamedIn, IsUnknownPolicy, IsUnknownRoot}
 use Rattle.sig_manifest.specs.Unknown.{unknown_at, unknown_by, unknown_from, unknown_in}
 use Rattle.sig_manifest.specs.declared.error.ManifestError.{ManifestError}
 use Rattle.sig_manifest.specs.declared.error.ManifestError.TheVariants as manifest
@@ -37,18 +37,18 @@ module _ (gate : Gate) where
   -- of these artifacts, of which the first is at place n
   abbrev IsFirst : ℕ → List Asked → ManifestError → Type 0
   IsFirst n xs (manifest.UnknownRoot place) =
-      (x : Asked) × (count : ℕ) × (n + count ≡ place) × IsBehindNamed gate xs count x × (text_lookup x.root gate.roots ≡ None)
+      (x : Asked) × (count : ℕ) × (n + count ≡ place) × IsAfterNamed gate xs count x × (text_lookup x.root gate.roots ≡ None)
   IsFirst n xs (manifest.UnknownPolicy place) =
-      (x : Asked) × (count : ℕ) × (n + count ≡ place) × IsBehindNamed gate xs count x × IsSome (text_lookup x.root gate.roots)
+      (x : Asked) × (count : ℕ) × (n + count ≡ place) × IsAfterNamed gate xs count x × IsSome (text_lookup x.root gate.roots)
       × (text_lookup x.policy gate.policies ≡ None)
   IsFirst n xs other = ⊥
 
-  here : (x : Asked) (xs : List Asked) → IsBehindNamed gate (x ∷ xs) 0 x
+  here : (x : Asked) (xs : List Asked) → IsAfterNamed gate (x ∷ xs) 0 x
   here x xs = record { before = []; after = xs; whole = refl; index = refl; named = tt }
 
-  behind : (x y : Asked) (xs : List Asked) (count : ℕ) → IsNamedIn gate x → IsBehindNamed gate xs count y
-      → IsBehindNamed gate (x ∷ xs) (suc count) y
-  behind x y xs count named is = record {
+  named_later : (x y : Asked) (xs : List Asked) (count : ℕ) → IsNamedIn gate x → IsAfterNamed gate xs count y
+      → IsAfterNamed gate (x ∷ xs) (suc count) y
+  named_later x y xs count named is = record {
     before = x ∷ is.before;
     after = is.after;
     whole = ap (λ l. x ∷ l) is.whole;
@@ -59,9 +59,9 @@ module _ (gate : Gate) where
   later : (n : ℕ) (x : Asked) (xs : List Asked) (e : ManifestError) → IsNamedIn gate x → IsFirst (n + 1) xs e
       → IsFirst n (x ∷ xs) e
   later n x xs (manifest.UnknownRoot place) named is =
-      (is.0, suc is.1, omega (arith, is.2), behind x is.0 xs is.1 named is.3, is.4)
+      (is.0, suc is.1, omega (arith, is.2), named_later x is.0 xs is.1 named is.3, is.4)
   later n x xs (manifest.UnknownPolicy place) named is =
-      (is.0, suc is.1, omega (arith, is.2), behind x is.0 xs is.1 named is.3, is.4, is.5)
+      (is.0, suc is.1, omega (arith, is.2), named_later x is.0 xs is.1 named is.3, is.4, is.5)
   later n x xs manifest.NotJson named is = absurd is
   later n x xs manifest.Float named is = absurd is
   later n x xs manifest.Member named is = absurd is
@@ -118,7 +118,7 @@ module _ (gate : Gate) where
     read,
     record {
       artifact = is.0;
-      first = subst (λ k. IsBehindNamed gate gate.artifacts k is.0)
+      first = subst (λ k. IsAfterNamed gate gate.artifacts k is.0)
           (counted is.1 place is.2) is.3;
       root = is.4;
     },
@@ -128,7 +128,7 @@ module _ (gate : Gate) where
     read,
     record {
       artifact = is.0;
-      first = subst (λ k. IsBehindNamed gate gate.artifacts k is.0)
+      first = subst (λ k. IsAfterNamed gate gate.artifacts k is.0)
           (counted is.1 place is.2) is.3;
       root = is.4;
       policy = is.5;

@@ -38,7 +38,7 @@ AreNamed gate = AllByRecursion (IsNamedIn gate) gate.artifacts
 -- ---- the same in the words of the manifest
 
 -- a list of artifacts has this one after so many, of each of which trusted root and policy are there
-pub record IsBehindNamed (gate : Gate) (xs : List Asked) (count : ℕ) (x : Asked) : Type 0 where
+pub record IsAfterNamed (gate : Gate) (xs : List Asked) (count : ℕ) (x : Asked) : Type 0 where
   pub before : List Asked
   pub after : List Asked
   pub whole : xs ≡ before ++ x ∷ after
@@ -48,12 +48,12 @@ pub record IsBehindNamed (gate : Gate) (xs : List Asked) (count : ℕ) (x : Aske
 -- the artifact at this place is the first that names something that is not there, and it is the trusted root
 pub record IsUnknownRoot (gate : Gate) (place : ℕ) : Type 0 where
   pub artifact : Asked
-  pub first : IsBehindNamed gate gate.artifacts place artifact
+  pub first : IsAfterNamed gate gate.artifacts place artifact
   pub root : text_lookup artifact.root gate.roots ≡ None
 
 -- the same of the policy, where the trusted root is there
 pub record IsUnknownPolicy (gate : Gate) (place : ℕ) : Type 0 where
   pub artifact : Asked
-  pub first : IsBehindNamed gate gate.artifacts place artifact
+  pub first : IsAfterNamed gate gate.artifacts place artifact
   pub root : IsSome (text_lookup artifact.root gate.roots)
   pub policy : text_lookup artifact.policy gate.policies ≡ None

@@ -23,7 +23,7 @@ fn left(rule: &Rule, most: usize) -> Option<usize>
     }
     match rule {
         Rule::Least(_) | Rule::Origin(_) | Rule::Size(_) => Some(most - 1),
-        Rule::All(rules) | Rule::Any(rules) => left_behind(rules, most - 1),
+        Rule::All(rules) | Rule::Any(rules) => left_after(rules, most - 1),
         Rule::Not(inner) => left(inner, most - 1),
     }
 }
@@ -31,7 +31,7 @@ fn left(rule: &Rule, most: usize) -> Option<usize>
 /// How many nodes are left of so many after those of some rules; `None` if the rules have more.
 #[cycle(size)]
 #[tactic(auto, using(crate::proofs::Sizes::sizes, crate::proofs::RuleViews::views))]
-fn left_behind(rules: &Rules, most: usize) -> Option<usize>
+fn left_after(rules: &Rules, most: usize) -> Option<usize>
     ensures { result ≡ left_of most (nodes_of_all (formulas_of (rules_view rules.now))) }
 {
     let mut rest = most;

@@ -150,17 +150,17 @@ AreFoundIn all left = AllByRecursion (λ m. get_member m.0 all ≡ Some m.1) lef
 above : (name other : List ℕ) → slice_cmp nat_cmp name other ≡ Less → slice_cmp nat_cmp other name ≡ Greater
 above name other less = nat_list_cmp_total.antisymm other name ∙ ap ordering_reverse less
 
-found-behind : (name other : List ℕ) (d value : Data) (ms : Members) → slice_cmp nat_cmp name other ≡ Less
+found-after : (name other : List ℕ) (d value : Data) (ms : Members) → slice_cmp nat_cmp name other ≡ Less
     → get_member other ms ≡ Some value → get_member other (member name d ms) ≡ Some value
-found-behind name other d value ms less found =
+found-after name other d value ms less found =
     ap (λ o. match_ordering o (get_member other ms) (Some d) (get_member other ms)) (above name other less) ∙ found
 
-all-behind : (name : List ℕ) (d : Data) (ms : Members) (left : List (List ℕ × Data))
+all-after : (name : List ℕ) (d : Data) (ms : Members) (left : List (List ℕ × Data))
     → AllByRecursion (λ k. slice_cmp nat_cmp name k ≡ Less) (keys_of left) → AreFoundIn ms left
     → AreFoundIn (member name d ms) left
-all-behind name d ms [] below found = tt
-all-behind name d ms (m ∷ left) below found =
-    (found-behind name m.0 d m.1 ms below.0 found.0, all-behind name d ms left below.1 found.1)
+all-after name d ms [] below found = tt
+all-after name d ms (m ∷ left) below found =
+    (found-after name m.0 d m.1 ms below.0 found.0, all-after name d ms left below.1 found.1)
 
 -- the first of these names finds its own value
 found-first : (name : List ℕ) (d : Data) (ms : Members) → get_member name (member name d ms) ≡ Some d
@@ -171,7 +171,7 @@ pub each-found : (ms : Members) → KeysAscend (members_list ms) → AreFoundIn 
 unfolding IsStrictlySortedBy
 each-found no_members up = tt
 each-found (member name d ms) up =
-    (found-first name d ms, all-behind name d ms (members_list ms) up.0 (each-found ms up.1))
+    (found-first name d ms, all-after name d ms (members_list ms) up.0 (each-found ms up.1))
 
 -- what is found ascends
 abbrev found-ascends : Option Data → Type 0

@@ -14,7 +14,7 @@ ghost use Rattle.sig_table.specs.Table.{elements, member_in, oneof_row, required
 use sig_json::{Json, read_u64};
 use sig_manifest::{Form, MOST_LEAST, MOST_NODES, form_of};
 use sig_table::{
-    Cause, MemberTable, Nothing, TableError, TextTable, at_most_one, behind_index, behind_name,
+    Cause, MemberTable, Nothing, TableError, TextTable, after_index, after_name, at_most_one,
     fault_here, member, not_empty, object, required, required_u64,
 };
 use std::alloc::Global;
@@ -97,7 +97,7 @@ fn least_in_range(alloc: Global, json: Json<'_, '_>) -> Result<(), TableError>
         Some(_) => Cause::BeyondRange,
         None => Cause::Absent,
     };
-    Err(behind_name(alloc, "least", fault_here(alloc, cause)))
+    Err(after_name(alloc, "least", fault_here(alloc, cause)))
 }
 
 /// Whether an integer that is there is from 1 to 16.
@@ -157,9 +157,9 @@ fn rules_row(alloc: Global, json: Json<'_, '_>, name: &str, levels: usize) -> Re
     match member(json, name) {
         Some(list) => match rules(alloc, list, levels) {
             Ok(()) => Ok(()),
-            Err(error) => Err(behind_name(alloc, name, error)),
+            Err(error) => Err(after_name(alloc, name, error)),
         },
-        None => Err(behind_name(alloc, name, fault_here(alloc, Cause::Absent))),
+        None => Err(after_name(alloc, name, fault_here(alloc, Cause::Absent))),
     }
 }
 
@@ -183,9 +183,9 @@ fn rule_row(alloc: Global, json: Json<'_, '_>, levels: usize) -> Result<(), Tabl
     match member(json, "not") {
         Some(inner) => match rule(alloc, inner, levels) {
             Ok(()) => Ok(()),
-            Err(error) => Err(behind_name(alloc, "not", error)),
+            Err(error) => Err(after_name(alloc, "not", error)),
         },
-        None => Err(behind_name(alloc, "not", fault_here(alloc, Cause::Absent))),
+        None => Err(after_name(alloc, "not", fault_here(alloc, Cause::Absent))),
     }
 }
 
@@ -216,7 +216,7 @@ fn each_rule(alloc: Global, json: Json<'_, '_>, levels: usize) -> Result<(), Tab
             unreachable!()
         };
         if let Err(error) = rule(alloc, element, levels) {
-            return Err(behind_index(index, error));
+            return Err(after_index(index, error));
         }
     }
     Ok(())

@@ -8,7 +8,7 @@ ghost use Rattle.sig_table.specs.declared.fault.TableError.TheVariants.{Fault};
 use sig_base::OutOfMemory;
 use sig_manifest::{ManifestError, read_manifest};
 use sig_request_fault::RequestFault;
-use sig_table::{Cause, DocumentFault, TableError, behind_index, behind_name, fault_here};
+use sig_table::{Cause, DocumentFault, TableError, after_index, after_name, fault_here};
 use std::alloc::Global;
 
 /// What is wrong with a text because of what artifacts name; `None` if they name what is there, or if the text is not a
@@ -42,7 +42,7 @@ fn at_artifact(alloc: Global, place: usize, name: &str) -> Result<Option<Request
 fn member_fault(alloc: Global, place: usize, name: &str) -> TableError
     ensures { OrMemory TableError.OutOfMemory result (result ≡ Fault (member_of_artifact place name.now)) }
 {
-    let member = behind_name(alloc, name, fault_here(alloc, Cause::BeyondRange));
-    let artifact = behind_index(place, member);
-    behind_name(alloc, "artifacts", artifact)
+    let member = after_name(alloc, name, fault_here(alloc, Cause::BeyondRange));
+    let artifact = after_index(place, member);
+    after_name(alloc, "artifacts", artifact)
 }

@@ -23,14 +23,14 @@ escaped_first b = if (b == 32) || (b == 35) then 92 ∷ b ∷ [] else escaped b
 abbrev pub escaped_last : ℕ → List ℕ
 escaped_last b = if b == 32 then 92 ∷ b ∷ [] else escaped b
 
-unfoldable pub behind_first : List ℕ → List ℕ
-behind_first [] = []
-behind_first (b ∷ []) = escaped_last b
-behind_first (b ∷ next ∷ rest) = escaped b ++ behind_first (next ∷ rest)
+unfoldable pub after_first : List ℕ → List ℕ
+after_first [] = []
+after_first (b ∷ []) = escaped_last b
+after_first (b ∷ next ∷ rest) = escaped b ++ after_first (next ∷ rest)
 
 abbrev pub value_text : List ℕ → List ℕ
 value_text [] = []
-value_text (b ∷ rest) = escaped_first b ++ behind_first rest
+value_text (b ∷ rest) = escaped_first b ++ after_first rest
 
 -- ---- a name: sections 2.1 to 2.3
 

@@ -1,7 +1,7 @@
 //! The text of a distinguished name (RFC 4514).
 ghost use Rattle.std.specs.Prelude.{◌≡◌, ◌++◌, ◌∷◌, IfOk, OnOk};
 ghost use Rattle.sig_name.specs.Name.{parts_in};
-ghost use Rattle.sig_name.specs.NameText.{behind_first, escaped, escaped_first, escaped_last, is_special, name_text};
+ghost use Rattle.sig_name.specs.NameText.{after_first, escaped, escaped_first, escaped_last, is_special, name_text};
 ghost use Rattle.sig_name.specs.NameText.{part_text, parts_text, text_if, text_in, value_text};
 ghost use Rattle.sig_name.specs.Seen.{all_seen, seen};
 
@@ -69,13 +69,13 @@ fn push_part(out: &mut Vec<u8>, part: &NamePart<'_>) -> Result<(), OutOfMemory>
 fn push_value(out: &mut Vec<u8>, value: &[u8]) -> Result<(), OutOfMemory>
     ensures { OnOk result (out.new.items ≡ out.old.items ++ value_text value.now) }
 {
-    let Some((first, behind)) = value.split_first() else {
+    let Some((first, others)) = value.split_first() else {
         return Ok(());
     };
     push_first(out, *first)?;
-    let mut rest = behind;
+    let mut rest = others;
     'bytes: while let Some((byte, after)) = rest.split_first() {
-        push_behind(out, *byte, after)?;
+        push_after(out, *byte, after)?;
         rest = after;
     }
     Ok(())
@@ -116,9 +116,9 @@ fn is_special(byte: u8) -> bool
 }
 
 /// Adds a byte of a value after the first; `rest` follows it.
-fn push_behind(out: &mut Vec<u8>, byte: u8, rest: &[u8]) -> Result<(), OutOfMemory>
-    ensures { OnOk result (out.new.items ++ behind_first rest.now
-        ≡ out.old.items ++ behind_first (byte ∷ rest.now)) }
+fn push_after(out: &mut Vec<u8>, byte: u8, rest: &[u8]) -> Result<(), OutOfMemory>
+    ensures { OnOk result (out.new.items ++ after_first rest.now
+        ≡ out.old.items ++ after_first (byte ∷ rest.now)) }
 {
     if rest.is_empty() {
         push_last(out, byte)

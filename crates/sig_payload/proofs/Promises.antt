@@ -74,13 +74,13 @@ module _ (spki : AcceptsSpki) (keys : Keys) where
     ToldBy (Ok x) = IsPromisedBy bundle read spki keys x
     ToldBy (Err e) = IsFaultBy bundle read spki keys e
 
-    behind : (x : A) (r : Result (Unit {0}) SigstoreError) → read ≡ Ok x → Told (bundle x) r → ToldBy (r >>= λ done. Ok x)
-    behind x (Ok done) is promised = (is, promised)
-    behind x (Err e) is fault = inr (x, (is, fault))
+    after : (x : A) (r : Result (Unit {0}) SigstoreError) → read ≡ Ok x → Told (bundle x) r → ToldBy (r >>= λ done. Ok x)
+    after x (Ok done) is promised = (is, promised)
+    after x (Err e) is fault = inr (x, (is, fault))
 
     told_by : (r : Result A JsonError) → read ≡ r
         → ToldBy (readable r >>= λ x. promise_answer spki keys (bundle x) >>= λ done. Ok x)
-    told_by (Ok x) is = behind x (promise_answer spki keys (bundle x)) is (told (bundle x))
+    told_by (Ok x) is = after x (promise_answer spki keys (bundle x)) is (told (bundle x))
     told_by (Err why) is = inl (refl, λ x same. let wrong = sym is ∙ same in cc)
 
     only_by : (x : A) → IsPromisedBy bundle read spki keys x → answer_by ≡ Ok x

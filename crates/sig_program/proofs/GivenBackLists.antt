@@ -20,27 +20,27 @@ every : (command : Command) (text list : List ℕ) (reply : Reply) → IsReplyBy
 every command text list reply is lists = is.succeeds.0 (ap (λ (r : Reply). r.status) lists)
 
 pub log_lists : ListsAreGivenBack LogQuestions
-log_lists front behind list reply is lists =
-    let hold = every LogQuestions (front ++ behind) list reply is lists in
+log_lists front after list reply is lists =
+    let hold = every LogQuestions (front ++ after) list reply is lists in
     let its = is.vouched hold hold.0.0 hold.0.1 in
-    let fits : FitsBeside (front ++ behind) its.0 =
-    subst (FitsBeside (front ++ behind)) (sym its.1.2) (hold.0.2 its.1.0 its.1.1) in
-    wherever_put front behind list its.0 (sym lists ∙ its.3) fits
+    let fits : FitsBeside (front ++ after) its.0 =
+    subst (FitsBeside (front ++ after)) (sym its.1.2) (hold.0.2 its.1.0 its.1.1) in
+    wherever_put front after list its.0 (sym lists ∙ its.3) fits
 
 pub consistency_lists : ListsAreGivenBack ConsistencyQuestions
-consistency_lists front behind list reply is lists =
-    let hold = every ConsistencyQuestions (front ++ behind) list reply is lists in
+consistency_lists front after list reply is lists =
+    let hold = every ConsistencyQuestions (front ++ after) list reply is lists in
     let its = is.vouched hold hold.0.0 hold.0.1 in
-    let fits : FitsBeside (front ++ behind) its.0 =
-    subst (FitsBeside (front ++ behind)) (sym its.1.2) (hold.0.2 its.1.0 its.1.1) in
-    wherever_put front behind list its.0 (sym lists ∙ its.3) fits
+    let fits : FitsBeside (front ++ after) its.0 =
+    subst (FitsBeside (front ++ after)) (sym its.1.2) (hold.0.2 its.1.0 its.1.1) in
+    wherever_put front after list its.0 (sym lists ∙ its.3) fits
 
 pub verify_lists : ListsAreGivenBack VerifyQuestions
-verify_lists front behind list reply is lists =
-    let text = front ++ behind in
+verify_lists front after list reply is lists =
+    let text = front ++ after in
     let hold = every VerifyQuestions text list reply is lists in
     let its = is.vouched hold hold.0.0 hold.0.1 in
     let none_fail = all_as (HoldsVerifyQuestions text) (HoldsOfVerifyQuestions text hold.0.0) question_links
     (alike_each (HoldsVerifyQuestions text) (HoldsOfVerifyQuestions text hold.0.0) question_links
     (λ l. of-request text hold.0.0 l hold.0.1)) hold.1 in
-    wherever_put front behind list its.0 (sym lists ∙ its.5) (hold.0.2 none_fail its.0 its.1)
+    wherever_put front after list its.0 (sym lists ∙ its.5) (hold.0.2 none_fail its.0 its.1)

@@ -67,9 +67,9 @@ abbrev last_of : Link → List Link → Link
 last_of link [] = link
 last_of link (next ∷ rest) = last_of next rest
 
-abbrev behind : List Link → List Link
-behind [] = []
-behind (link ∷ rest) = rest
+abbrev after : List Link → List Link
+after [] = []
+after (link ∷ rest) = rest
 
 holds-last : (P : Link → Type 0) (link : Link) (rest : List Link) → AllByRecursion P (link ∷ rest)
     → P (last_of link rest)
@@ -79,4 +79,4 @@ holds-last P link (next ∷ rest) every = holds-last P next rest every.1
 pub every-included : (o : Outside) (i : Inputs) (offline : LoggedEntry) → AllByRecursion (HoldsOf o i) chain_links
     → OfPassed i (λ c. IsKept c.entry offline) → IsProofOf offline.body offline.proof
 every-included o i offline every kept =
-    proof_in o i offline (holds-last (HoldsOf o i) RootJson (behind chain_links) every) kept
+    proof_in o i offline (holds-last (HoldsOf o i) RootJson (after chain_links) every) kept

@@ -11,5 +11,5 @@ use Rattle.sig_reply.specs.declared.reply.Reply.{Reply}
 -- a request may have.
 abbrev pub ListsAreGivenBack : Command → Type 0
 ListsAreGivenBack command =
-    (front behind list : List ℕ) (reply : Reply) → IsReply command (front ++ behind) reply → reply ≡ listed list
-    → length (front ++ (accepted_name ++ (list ++ behind))) ≤ most_bytes
+    (front after list : List ℕ) (reply : Reply) → IsReply command (front ++ after) reply → reply ≡ listed list
+    → length (front ++ (accepted_name ++ (list ++ after))) ≤ most_bytes

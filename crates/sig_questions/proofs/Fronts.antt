@@ -13,7 +13,7 @@ use Rattle.sig_dsse.specs.declared.artifact_digest.ArtifactDigest.{ArtifactDiges
 use Rattle.sig_policy.specs.Refusals.{not_found}
 use Rattle.sig_root.specs.RootRecord.{trusted_root_in}
 use Rattle.sig_root.specs.declared.record.TrustedRoot.{TrustedRoot}
-use Rattle.sig_verify.proofs.JudgedLaws.{Alike, all_as, all_joined, fails_as, fails_behind, fails_front}
+use Rattle.sig_verify.proofs.JudgedLaws.{Alike, all_as, all_joined, fails_after, fails_as, fails_front}
 use Rattle.sig_verify.proofs.LinkGroups.{roots_alike, verified_alike}
 use Rattle.sig_verify.proofs.Parts.{checked_as, of_checked}
 use Rattle.sig_verify.specs.BundleLinks.{bundle_links}
@@ -208,7 +208,7 @@ module _ (i : Inputs) (root : TrustedRoot) (root_is : trusted_root_in i.root ≡
   pub root_fails : (link : Link) → FailsFirst (HoldsOfRoot root i.now) root_links link
       → FailsFirst (HoldsUnasked i) question_links link
   root_fails link fails =
-      fails_behind (HoldsUnasked i) (RootJson ∷ BundleJson ∷ []) (root_links ++ rest_links) link texts_hold
+      fails_after (HoldsUnasked i) (RootJson ∷ BundleJson ∷ []) (root_links ++ rest_links) link texts_hold
       (fails_front (HoldsUnasked i) root_links rest_links link
       (fails_as (HoldsOfRoot root i.now) (HoldsUnasked i) root_links link (roots_alike accepting i root root_is) fails))
 
@@ -236,5 +236,5 @@ module _ (i : Inputs) (root : TrustedRoot) (root_is : trusted_root_in i.root ≡
     pub first_fails : (link : Link) → FailsFirst (HoldsOfUnasked trusted i.digest b) rest_links link
         → FailsFirst (HoldsUnasked i) question_links link
     first_fails link fails =
-        fails_behind (HoldsUnasked i) (RootJson ∷ BundleJson ∷ root_links) rest_links link root_holds
+        fails_after (HoldsUnasked i) (RootJson ∷ BundleJson ∷ root_links) rest_links link root_holds
         (fails_as (HoldsOfUnasked trusted i.digest b) (HoldsUnasked i) rest_links link rest_alike fails)

@@ -5,17 +5,17 @@ use Rattle.sig_verify.specs.declared.link.Link.TheVariants as link
 use Rattle.sig_questions.specs.Order.{IsEarlier}
 use Rattle.sig_questions.specs.Questions.{front_links, question_links}
 
-abbrev behind_note : List Link
-behind_note = link.NoteMatch ∷ link.Inclusion ∷ []
+abbrev after_note : List Link
+after_note = link.NoteMatch ∷ link.Inclusion ∷ []
 
-abbrev behind_promise : List Link
-behind_promise = link.Proof ∷ link.Checkpoint ∷ link.NoteKey ∷ behind_note
+abbrev after_promise : List Link
+after_promise = link.Proof ∷ link.Checkpoint ∷ link.NoteKey ∷ after_note
 
-abbrev behind_signature : List Link
-behind_signature = link.Subject ∷ link.Body ∷ link.Time ∷ link.LogKey ∷ link.Promise ∷ behind_promise
+abbrev after_signature : List Link
+after_signature = link.Subject ∷ link.Body ∷ link.Time ∷ link.LogKey ∷ link.Promise ∷ after_promise
 
-abbrev behind_sct : List Link
-behind_sct = link.Policy ∷ link.Key ∷ link.Signature ∷ behind_signature
+abbrev after_sct : List Link
+after_sct = link.Policy ∷ link.Key ∷ link.Signature ∷ after_signature
 
 -- from one to the next
 abbrev to_signature : List Link
@@ -34,13 +34,13 @@ abbrev before_promise : List Link
 before_promise = before_signature ++ link.Signature ∷ to_promise
 
 pub issuer_sct : IsEarlier link.Issuer link.Sct
-issuer_sct = record { before = front_links; between = []; after = behind_sct; split = refl }
+issuer_sct = record { before = front_links; between = []; after = after_sct; split = refl }
 
 pub issuer_signature : IsEarlier link.Issuer link.Signature
 issuer_signature = record {
   before = front_links;
   between = link.Sct ∷ to_signature;
-  after = behind_signature;
+  after = after_signature;
   split = refl;
 }
 
@@ -48,7 +48,7 @@ pub issuer_promise : IsEarlier link.Issuer link.Promise
 issuer_promise = record {
   before = front_links;
   between = link.Sct ∷ to_signature ++ link.Signature ∷ to_promise;
-  after = behind_promise;
+  after = after_promise;
   split = refl;
 }
 
@@ -56,18 +56,18 @@ pub issuer_note : IsEarlier link.Issuer link.NoteKey
 issuer_note = record {
   before = front_links;
   between = link.Sct ∷ to_signature ++ link.Signature ∷ to_promise ++ link.Promise ∷ to_note;
-  after = behind_note;
+  after = after_note;
   split = refl;
 }
 
 pub sct_signature : IsEarlier link.Sct link.Signature
-sct_signature = record { before = question_links; between = to_signature; after = behind_signature; split = refl }
+sct_signature = record { before = question_links; between = to_signature; after = after_signature; split = refl }
 
 pub sct_promise : IsEarlier link.Sct link.Promise
 sct_promise = record {
   before = question_links;
   between = to_signature ++ link.Signature ∷ to_promise;
-  after = behind_promise;
+  after = after_promise;
   split = refl;
 }
 
@@ -75,23 +75,23 @@ pub sct_note : IsEarlier link.Sct link.NoteKey
 sct_note = record {
   before = question_links;
   between = to_signature ++ link.Signature ∷ to_promise ++ link.Promise ∷ to_note;
-  after = behind_note;
+  after = after_note;
   split = refl;
 }
 
 pub signature_promise : IsEarlier link.Signature link.Promise
-signature_promise = record { before = before_signature; between = to_promise; after = behind_promise; split = refl }
+signature_promise = record { before = before_signature; between = to_promise; after = after_promise; split = refl }
 
 pub signature_note : IsEarlier link.Signature link.NoteKey
 signature_note = record {
   before = before_signature;
   between = to_promise ++ link.Promise ∷ to_note;
-  after = behind_note;
+  after = after_note;
   split = refl;
 }
 
 pub promise_note : IsEarlier link.Promise link.NoteKey
-promise_note = record { before = before_promise; between = to_note; after = behind_note; split = refl }
+promise_note = record { before = before_promise; between = to_note; after = after_note; split = refl }
 
 pub earlier : (one other : Link) → IsEarlier one other → (a b : Link) → a ≡ one → b ≡ other → IsEarlier a b
 earlier one other is a b first second =

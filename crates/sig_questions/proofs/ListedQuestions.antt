@@ -14,7 +14,7 @@ use Rattle.sig_certificate.specs.Certificates.{AreCertificates}
 use Rattle.sig_root.specs.declared.record.TrustedRoot.{TrustedRoot}
 use Rattle.sig_timestamp.specs.Keyring.{key_of}
 use Rattle.sig_verify.specs.CertificateLinks.{HasIssuer, Trust}
-use Rattle.sig_verify.proofs.JudgedLaws.{all_joined, fails_behind}
+use Rattle.sig_verify.proofs.JudgedLaws.{all_joined, fails_after}
 use Rattle.sig_verify.specs.EntryLinks.{IsOfBytes, LogKeys}
 use Rattle.sig_verify.specs.LinkLaws.{IsReadCertificate}
 use Rattle.sig_verify.specs.Links.{Inputs, OfPassed}
@@ -39,7 +39,7 @@ use Rattle.sig_x509.specs.Path.{every_signature}
 use Rattle.sig_questions.specs.Asked.{IsAskedBy, signature_row}
 use Rattle.sig_questions.specs.Listed.{GivesTrust, AreListed, IsAnswered, ListedTextsAreAnswered, Listing}
 use Rattle.sig_questions.specs.Listed.{ReadIfOk, trust_in}
-use Rattle.sig_questions.specs.Lists.{certificate_questions, content_questions, entry_questions, questions_behind}
+use Rattle.sig_questions.specs.Lists.{certificate_questions, content_questions, entry_questions, questions_after}
 use Rattle.sig_questions.specs.Lists.{questions_of, sct_questions}
 use Rattle.sig_questions.specs.Order.{AreInOrder, IsAskedAt}
 use Rattle.sig_questions.specs.Questions.{AreQuestions, HoldsUnasked, QuestionsAreOneList, accepting, front_links}
@@ -65,7 +65,7 @@ module _ (one : OneCertificate) (i : Inputs) (p : AnchoredParts i) where
       listed : Contains (questions_of i.digest trust keys c) row ↔ IsAskedOf p row
       listed =
           has_either (certificate_questions trust c)
-          (questions_behind i.digest trust keys c) row (has_certificate trust c row)
+          (questions_after i.digest trust keys c) row (has_certificate trust c row)
           (has_either (sct_questions trust c)
           (content_questions i.digest c ++ entry_questions keys c.entry) row
           (has_point trust c read.sct row)
@@ -160,7 +160,7 @@ module _ (one : OneCertificate) (i : Inputs) (most : ℕ)
     asked = λ found wrong. absurd cc;
     ordered = λ found wrong. absurd cc;
     decided = subst (λ (l : LinkType). FailsFirst (HoldsUnasked i) question_links l) (sym is)
-        (fails_behind (HoldsUnasked i) front_links (Issuer ∷ []) Issuer front
+        (fails_after (HoldsUnasked i) front_links (Issuer ∷ []) Issuer front
         (inl (none_issues one i its none, refl)));
   }
   told (Err OutOfMemory) listed read = record {

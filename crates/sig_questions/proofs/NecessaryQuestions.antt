@@ -36,7 +36,7 @@ use Rattle.sig_verify.proofs.Parts.{trust_with}
 use Rattle.sig_questions.proofs.RowLaws.{has_one}
 use Rattle.sig_questions.specs.Asked.{IsCertificateRow, IsContentRow, IsNoteRow, IsPointRow, IsPromiseRow}
 use Rattle.sig_questions.specs.Asked.{IsSignatureRow, OfPath, issuer_in, signature_row}
-use Rattle.sig_questions.proofs.PathTables.{behind, issued_row, issuer_with, not_rest, rest_from, rest_rows}
+use Rattle.sig_questions.proofs.PathTables.{after, issued_row, issuer_with, not_rest, rest_from, rest_rows}
 use Rattle.sig_questions.proofs.Shortcuts.{IsSplit, shortcut_or_none, split_at, step_matters}
 use Rattle.sig_questions.specs.Matters.{EachQuestionMatters, HasShortcut, Matters, OfStep, RestsOn, checker_with, last_of}
 use Rattle.sig_questions.specs.Rows.{message_row, point_row, prehash_row}
@@ -85,7 +85,7 @@ point_matters one {i} p row (path, anchor, on, (s, has, (long, short, point, at,
     let table : List AcceptedRow = its ∷ other ∷ later in
     let k : Checker = checker_with table in
     let issuer : HasIssuer k (trust_with p) p.parts.checked =
-    issuer_with one p path anchor on table (λ r in_path. behind its r (other ∷ later) in_path) in
+    issuer_with one p path anchor on table (λ r in_path. after its r (other ∷ later) in_path) in
     let z : Cert = issuer.first.path.certificate in
     let there = issued_row table (pool_over p.anchors p.parts.checked.further) d issuer.issuer issuer.first.path in
     let key : z.spki ≡ y.spki =
@@ -123,8 +123,8 @@ point_matters one {i} p row (path, anchor, on, (s, has, (long, short, point, at,
           | inl here ↦
               absurd (other_operation (signature_row d z) its refl point_operation
               ((has_one its (signature_row d z)).0 here))
-          | inr behind ↦
-              elim (Contains-append_cases (signature_row d y ∷ []) later (signature_row d z) behind) [
+          | inr after ↦
+              elim (Contains-append_cases (signature_row d y ∷ []) later (signature_row d z) after) [
                 | inl its_row ↦
                     same_key (signature_row d z) (signature_row d y)
                     ((has_one (signature_row d y) (signature_row d z)).0 its_row)

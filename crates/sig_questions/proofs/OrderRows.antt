@@ -58,7 +58,7 @@ use Rattle.sig_questions.specs.Lists.{certificate_questions, checkpoint_in, chec
 use Rattle.sig_questions.specs.Lists.{content_questions_under, embedded_questions, entry_questions}
 use Rattle.sig_questions.specs.Lists.{entry_questions_under, if_scheme, note_question, note_questions}
 use Rattle.sig_questions.specs.Lists.{pointed_questions, promise_questions, promise_questions_by}
-use Rattle.sig_questions.specs.Lists.{promise_questions_over, questions_behind, questions_of, sct_questions}
+use Rattle.sig_questions.specs.Lists.{promise_questions_over, questions_after, questions_of, sct_questions}
 use Rattle.sig_questions.specs.Lists.{spki_named, text_questions}
 use Rattle.sig_questions.specs.Order.{AreInOrder, Asking, IsAskedAt, IsBefore, IsCertificateRowAt}
 use Rattle.sig_questions.specs.Order.{IsNoteRowAt, IsPointRowAt, IsStepOf, signed_in}
@@ -363,11 +363,11 @@ module _ (one : OneCertificate) (i : Inputs) (p : AnchoredParts i) where
     abbrev OfLast : Link → ℕ → AcceptedRow → Type 0
     OfLast l place row = OfContentOf i.digest c l place row ⊎ OfEntryRow keys c.entry bytes l place row
 
-    abbrev OfBehind : Link → ℕ → AcceptedRow → Type 0
-    OfBehind l place row = OfPoint trust c l place row ⊎ OfLast l place row
+    abbrev OfAfter : Link → ℕ → AcceptedRow → Type 0
+    OfAfter l place row = OfPoint trust c l place row ⊎ OfLast l place row
 
     abbrev OfAny : Link → ℕ → AcceptedRow → Type 0
-    OfAny l place row = OfCertificate trust c l place row ⊎ OfBehind l place row
+    OfAny l place row = OfCertificate trust c l place row ⊎ OfAfter l place row
 
     last_placed : ArePlaced OfLast (content_questions i.digest c ++ entry_questions keys c.entry)
     last_placed =
@@ -381,8 +381,8 @@ module _ (one : OneCertificate) (i : Inputs) (p : AnchoredParts i) where
         before a b first (inr note) =
             inl (earlier link.Signature link.NoteKey signature_note a.link b.link first.0 note.0)
 
-    behind_placed : ArePlaced OfBehind (questions_behind i.digest trust keys c)
-    behind_placed =
+    after_placed : ArePlaced OfAfter (questions_after i.digest trust keys c)
+    after_placed =
         both_placed (OfPoint trust c) OfLast
         (sct_questions trust c)
         (content_questions i.digest c ++ entry_questions keys c.entry) before
@@ -399,12 +399,12 @@ module _ (one : OneCertificate) (i : Inputs) (p : AnchoredParts i) where
 
     any_placed : ArePlaced OfAny (questions_of i.digest trust keys c)
     any_placed =
-        both_placed (OfCertificate trust c) OfBehind
-        (certificate_questions trust c) (questions_behind i.digest trust keys c) before
-        (certificates_placed trust c) behind_placed
+        both_placed (OfCertificate trust c) OfAfter
+        (certificate_questions trust c) (questions_after i.digest trust keys c) before
+        (certificates_placed trust c) after_placed
       where
         before : (a b : Asking) → OfCertificate trust c a.link a.place a.row
-            → OfBehind b.link b.place b.row → IsBefore a b
+            → OfAfter b.link b.place b.row → IsBefore a b
         before a b first (inl point) =
             inl (earlier link.Issuer link.Sct issuer_sct a.link b.link first.0 point.0)
         before a b first (inr (inl content)) =

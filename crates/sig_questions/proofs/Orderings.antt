@@ -20,25 +20,25 @@ Ascend (one ∷ later) = AllByRecursion (IsBefore one) later × Ascend later
 
 joined : (P : Asking → Type 0) (xs ys : List Asking) → AllByRecursion P xs → AllByRecursion P ys
     → AllByRecursion P (xs ++ ys)
-joined P [] ys front behind = behind
-joined P (x ∷ xs) ys front behind = (front.0, joined P xs ys front.1 behind)
+joined P [] ys front after = after
+joined P (x ∷ xs) ys front after = (front.0, joined P xs ys front.1 after)
 
-behind_one : (x a : Asking) (xs : List Asking) → Contains xs a → Contains (x ∷ xs) a
-behind_one x a xs has = Contains-append_right (x ∷ []) xs a has
+after_one : (x a : Asking) (xs : List Asking) → Contains xs a → Contains (x ∷ xs) a
+after_one x a xs has = Contains-append_right (x ∷ []) xs a has
 
 at_front : (x : Asking) (xs : List Asking) → Contains (x ∷ xs) x
 at_front x xs = (0, omega arith, refl)
 
 each : (P : Asking → Type 0) (xs : List Asking) → ((x : Asking) → Contains xs x → P x) → AllByRecursion P xs
 each P [] holds = tt
-each P (x ∷ xs) holds = (holds x (at_front x xs), each P xs (λ y has. holds y (behind_one x y xs has)))
+each P (x ∷ xs) holds = (holds x (at_front x xs), each P xs (λ y has. holds y (after_one x y xs has)))
 
 ascend_joined : (xs ys : List Asking) → Ascend xs → Ascend ys
     → ((x y : Asking) → Contains xs x → Contains ys y → IsBefore x y) → Ascend (xs ++ ys)
-ascend_joined [] ys front behind before = behind
-ascend_joined (x ∷ xs) ys front behind before = (
+ascend_joined [] ys front after before = after
+ascend_joined (x ∷ xs) ys front after before = (
   joined (IsBefore x) xs ys front.0 (each (IsBefore x) ys (λ y has. before x y (at_front x xs) has)),
-  ascend_joined xs ys front.1 behind (λ a y has_a has_y. before a y (behind_one x a xs has_a) has_y),
+  ascend_joined xs ys front.1 after (λ a y has_a has_y. before a y (after_one x a xs has_a) has_y),
 )
 
 -- what all have, the one at a place has

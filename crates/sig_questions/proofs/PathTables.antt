@@ -36,8 +36,8 @@ use Rattle.sig_questions.specs.Matters.{checker_with}
 
 -- ---- lists
 
-pub behind : {X : Type 0} (y x : X) (xs : List X) → Contains xs x → Contains (y ∷ xs) x
-behind y x xs has = Contains-append_right (y ∷ []) xs x has
+pub after : {X : Type 0} (y x : X) (xs : List X) → Contains xs x → Contains (y ∷ xs) x
+after y x xs has = Contains-append_right (y ∷ []) xs x has
 
 pub at_front : {X : Type 0} (x : X) (xs : List X) → Contains (x ∷ xs) x
 at_front x xs = Contains-append_left (x ∷ []) xs x ((has_one x x).1 refl)
@@ -102,7 +102,7 @@ module _ (one : OneCertificate) (b : Bundle) (c : Checked) (passed : IsPassed b 
       → signature_row c.certificate x ≡ signature_row w v → ⊥
   apart t w v x has may same =
       no_leaf t w may
-      (same_signed c.certificate w x v (at_front c.certificate c.further) (behind c.certificate w c.further has) same)
+      (same_signed c.certificate w x v (at_front c.certificate c.further) (after c.certificate w c.further has) same)
 
 -- ---- tables
 
@@ -145,7 +145,7 @@ signed_up rows c (x ∷ xs) anchor signed in_table = (
         (in_table (signature_row c x) (at_front (signature_row c x) (rest_rows (x ∷ xs) anchor)));
   },
   signed_up rows x xs anchor signed.1
-      (λ row has. in_table row (behind (signature_row c x) row (rest_rows (x ∷ xs) anchor) has)),
+      (λ row has. in_table row (after (signature_row c x) row (rest_rows (x ∷ xs) anchor) has)),
 )
 
 -- who issued the certificate under a table has its row there

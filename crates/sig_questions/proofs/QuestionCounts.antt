@@ -29,7 +29,7 @@ use Rattle.sig_questions.specs.Asked.{signature_row}
 use Rattle.sig_questions.specs.Few.{AreFewBeside, AreFewQuestions, QuestionsAreFew, is_of}
 use Rattle.sig_questions.specs.Lists.{Pair, Side, certificate_questions, content_questions, embedded_questions}
 use Rattle.sig_questions.specs.Lists.{entry_questions, pair_questions, pairs, pairs_with, pointed_questions}
-use Rattle.sig_questions.specs.Lists.{questions_behind, questions_of, sct_questions, side_questions, signed_side}
+use Rattle.sig_questions.specs.Lists.{questions_after, questions_of, sct_questions, side_questions, signed_side}
 use Rattle.sig_questions.specs.Lists.{signer_side, signers}
 
 -- ---- lists
@@ -88,9 +88,9 @@ front_counted operation xs ys others =
     let sum = sum_by-append (λ (r : AcceptedRow). cond (is_of operation r) 1 0) xs ys in
     omega (arith, few, none, sum)
 
-behind_counted : (operation : Operation) (xs ys : List AcceptedRow) → AllHave (IsOther operation) xs
+after_counted : (operation : Operation) (xs ys : List AcceptedRow) → AllHave (IsOther operation) xs
     → count operation (xs ++ ys) ≡ count operation ys
-behind_counted operation xs ys others =
+after_counted operation xs ys others =
     let none = none_counted operation xs others in
     let sum = sum_by-append (λ (r : AcceptedRow). cond (is_of operation r) 1 0) xs ys in
     omega (arith, none, sum)
@@ -188,7 +188,7 @@ module _ {i : Inputs} (p : AnchoredParts i) where
 
   certificates_few : count Certificate (questions_of i.digest trust keys c) ≤ 17 * (16 + length ders)
   certificates_few =
-      let counted = front_counted Certificate (certificate_questions trust c) (questions_behind i.digest trust keys c)
+      let counted = front_counted Certificate (certificate_questions trust c) (questions_after i.digest trust keys c)
       (both (IsOther Certificate) (sct_questions trust c) others
       (points_had (IsOther Certificate) (λ key message signature. refl) trust c)
       (others_had (IsOther Certificate) (λ s spki message signature. refl) (λ s spki digest signature. refl)
@@ -201,7 +201,7 @@ module _ {i : Inputs} (p : AnchoredParts i) where
 
   points_few : count Point (questions_of i.digest trust keys c) ≤ 16 + length ders
   points_few =
-      let behind = behind_counted Point (certificate_questions trust c) (questions_behind i.digest trust keys c)
+      let after = after_counted Point (certificate_questions trust c) (questions_after i.digest trust keys c)
       (certificates_had (IsOther Point) (λ issuer algorithm tbs signature. refl) trust c) in
       let counted = front_counted Point (sct_questions trust c) others
       (others_had (IsOther Point) (λ s spki message signature. refl) (λ s spki digest signature. refl)
@@ -210,7 +210,7 @@ module _ {i : Inputs} (p : AnchoredParts i) where
       let sides = signers_length trust c in
       let few = further_few in
       let same = anchors_same in
-      omega (arith, behind, counted, its, sides, few, same)
+      omega (arith, after, counted, its, sides, few, same)
 
   all_few : (rows : List AcceptedRow) → rows ≡ questions_of i.digest trust keys c → AreFewQuestions i rows
   all_few rows is = (

@@ -54,9 +54,9 @@ module _ (P : AcceptedRow → Type 0) where
   one y is row has = subst P (sym ((has_one y row).0 has)) is
 
   pub both : (xs ys : List AcceptedRow) → AllHave xs → AllHave ys → AllHave (xs ++ ys)
-  both xs ys front behind row has = elim ((has_both xs ys row).0 has) [
+  both xs ys front after row has = elim ((has_both xs ys row).0 has) [
     | inl early ↦ front row early
-    | inr late ↦ behind row late
+    | inr late ↦ after row late
   ]
 
   each : {X : Type 0} (f : X → List AcceptedRow) (xs : List X) → ((x : X) → AllHave (f x)) → AllHave (flat_map f xs)

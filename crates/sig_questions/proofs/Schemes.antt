@@ -9,14 +9,14 @@ use Rattle.sig_verify.specs.EntryLinks.{LogKeys}
 use Rattle.sig_verify.proofs.Parts.{log_keys_of, of_parts, trust_with}
 use Rattle.sig_questions.proofs.QuestionKinds.{AllHave, both, certificates_had, others_had, points_had}
 use Rattle.sig_questions.specs.Lists.{certificate_questions, content_questions, entry_questions, questions_of}
-use Rattle.sig_questions.specs.Lists.{questions_behind, sct_questions}
+use Rattle.sig_questions.specs.Lists.{questions_after, sct_questions}
 use Rattle.sig_questions.specs.Questions.{QuestionsHaveSchemes}
 use Rattle.sig_questions.specs.Rows.{HasScheme}
 
 all_had : (d : ArtifactDigest) (trust : Trust) (keys : LogKeys) (c : Checked)
     → AllHave HasScheme (questions_of d trust keys c)
 all_had d trust keys c =
-    both HasScheme (certificate_questions trust c) (questions_behind d trust keys c)
+    both HasScheme (certificate_questions trust c) (questions_after d trust keys c)
     (certificates_had HasScheme (λ issuer algorithm tbs signature. tt) trust c)
     (both HasScheme (sct_questions trust c) (content_questions d c ++ entry_questions keys c.entry)
     (points_had HasScheme (λ key message signature. refl) trust c)

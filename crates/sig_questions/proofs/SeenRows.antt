@@ -19,9 +19,9 @@ use Rattle.sig_x509.specs.declared.possible.PossibleSigners.{PossibleSigners}
 use Rattle.sig_questions.specs.Asked.{signature_row}
 use Rattle.sig_questions.specs.Listed.{AreListed, AreListedAs, Listing, trust_in}
 use Rattle.sig_questions.specs.Lists.{Side, certificate_questions, content_questions, entry_questions, pair_questions}
-use Rattle.sig_questions.specs.Lists.{pairs_with, questions_behind, sct_questions, sct_questions_under}
+use Rattle.sig_questions.specs.Lists.{pairs_with, questions_after, sct_questions, sct_questions_under}
 use Rattle.sig_questions.specs.Lists.{signature_questions, signed_side, signer_side, signers}
-use Rattle.sig_questions.specs.Written.{point_questions, rows_behind, rows_of_paths, rows_of_points, rows_of_signed}
+use Rattle.sig_questions.specs.Written.{point_questions, rows_after, rows_of_paths, rows_of_points, rows_of_signed}
 use Rattle.sig_questions.specs.declared.trust.TrustParts.{TrustParts}
 
 -- ---- lists
@@ -148,7 +148,7 @@ pub listed_all : (parts : TrustParts) (d : ArtifactDigest) (c : Checked) (p : Po
     → time ≡ leaf.not_before → seen_under p.leaf ≡ under_all parts.anchors further time (the_leaf leaf time)
     → map seen_under p.further.items
     ≡ map (λ z. under_all parts.anchors further time (further_signed further leaf time z)) further
-    → AreListedAs (rows_of_paths p) (rows_of_paths p ++ rows_behind p parts d c) most result
+    → AreListedAs (rows_of_paths p) (rows_of_paths p ++ rows_after p parts d c) most result
     → AreListed d (trust_in parts) parts.log_keys c most result
 listed_all parts d c p leaf further time most result of_leaf of_further of_time is_leaf are_further listed =
     let trust : Trust = trust_in parts in
@@ -163,9 +163,9 @@ listed_all parts d c p leaf further time most result of_leaf of_further of_time 
     ∙ ap (λ (t : ℤ). map (λ z. under_all parts.anchors c.further t (further_signed c.further c.certificate t z))
     c.further) same in
     let signed = signed_are trust c p one two in
-    let behind : rows_behind p parts d c ≡ questions_behind d trust parts.log_keys c =
+    let after : rows_after p parts d c ≡ questions_after d trust parts.log_keys c =
     ap (λ (rows : List AcceptedRow). rows ++ (content_questions d c ++ entry_questions parts.log_keys c.entry))
     (points_are trust c p one two) in
-    subst (λ (rows : List AcceptedRow). AreListedAs rows (rows ++ questions_behind d trust parts.log_keys c) most result)
+    subst (λ (rows : List AcceptedRow). AreListedAs rows (rows ++ questions_after d trust parts.log_keys c) most result)
     signed
-    (subst (λ (rows : List AcceptedRow). AreListedAs (rows_of_paths p) (rows_of_paths p ++ rows) most result) behind listed)
+    (subst (λ (rows : List AcceptedRow). AreListedAs (rows_of_paths p) (rows_of_paths p ++ rows) most result) after listed)

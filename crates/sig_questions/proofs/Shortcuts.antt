@@ -22,7 +22,7 @@ use Rattle.sig_x509.specs.AskedAnchors.{IsSameSigner}
 use Rattle.sig_x509.specs.Path.{AreSignedUp, IsNext, IsPath, MayIssue, every_signature}
 use Rattle.sig_x509.specs.Pool.{pool_over}
 use Rattle.sig_questions.proofs.Issuers.{some_issuer, with_signatures}
-use Rattle.sig_questions.proofs.PathTables.{at_front, behind, no_leaf, rest_from, rest_rows, same_signed, signed_up}
+use Rattle.sig_questions.proofs.PathTables.{after, at_front, no_leaf, rest_from, rest_rows, same_signed, signed_up}
 use Rattle.sig_questions.proofs.RowLaws.{empty_has, has_one}
 use Rattle.sig_questions.specs.Asked.{issuer_in, signature_row}
 use Rattle.sig_questions.specs.Matters.{HasShortcut, RestsOn, checker_with, last_of}
@@ -63,8 +63,8 @@ below_from c (x ∷ xs) upper anchor signed row has =
         let found = later there in record {
           signed = found.signed;
           signer = found.signer;
-          from = behind c found.signed (x ∷ xs) found.from;
-          to = behind x found.signer xs found.to;
+          from = after c found.signed (x ∷ xs) found.from;
+          to = after x found.signer xs found.to;
           named = found.named;
           is = found.is;
         }
@@ -91,11 +91,11 @@ split_rows c (x ∷ xs) upper anchor row has =
         → (Contains (signature_row x (issuer_in (xs ++ upper) anchor) ∷ rest_rows (xs ++ upper) anchor) row
         → Contains (step ∷ others) row) → Contains (step ∷ (signature_row c x ∷ others)) row
     by (inl here) later =
-        behind step row (signature_row c x ∷ others) (Contains-append_left (signature_row c x ∷ []) others row here)
+        after step row (signature_row c x ∷ others) (Contains-append_left (signature_row c x ∷ []) others row here)
     by (inr there) later = elim (Contains-append_cases (step ∷ []) others row (later there)) [
       | inl first ↦ Contains-append_left (step ∷ []) (signature_row c x ∷ others) row first
       | inr other ↦
-          behind step row (signature_row c x ∷ others) (behind (signature_row c x) row others other)
+          after step row (signature_row c x ∷ others) (after (signature_row c x) row others other)
     ]
 
 -- ---- no other path has only these rows
@@ -143,7 +143,7 @@ module _ (one : OneCertificate) {i : Inputs} (p : AnchoredParts i) (lower upper 
   in_lower : (w : Cert) → Contains (c ∷ lower) w → Contains (c ∷ further) w
   in_lower w has = elim (Contains-append_cases (c ∷ []) lower w has) [
     | inl here ↦ Contains-append_left (c ∷ []) further w here
-    | inr there ↦ behind c w further (in_further w (Contains-append_left lower upper w there))
+    | inr there ↦ after c w further (in_further w (Contains-append_left lower upper w there))
   ]
 
   -- whoever has a row over such a certificate is such a one
@@ -168,7 +168,7 @@ module _ (one : OneCertificate) {i : Inputs} (p : AnchoredParts i) (lower upper 
             let has_above : Contains upper found.1 = contains_at upper found.0 found.1 found.2 in
             absurd (not_above v low found.1 has_above
             (same_signed one p.parts.bundle p.parts.checked p.parts.passed v found.1 x found.3 given
-            (behind c found.1 further (in_further found.1 (Contains-append_right lower upper found.1 has_above)))
+            (after c found.1 further (in_further found.1 (Contains-append_right lower upper found.1 has_above)))
             found.4)))
       ]
 
@@ -190,7 +190,7 @@ module _ (one : OneCertificate) {i : Inputs} (p : AnchoredParts i) (lower upper 
       never_up w
       (inr (low_signer v low given w signed.0.issuer
       ((accepted-rows others kinds.Certificate v.algorithm w.spki v.tbs v.signature).0 signed.0.genuine)))
-      (behind c w further (each 0 w refl)) ws top signed.1 (λ k u at. each (suc k) u at) trusted
+      (after c w further (each 0 w refl)) ws top signed.1 (λ k u at. each (suc k) u at) trusted
 
   pub step_matters : RestsOn i Issuer step
   step_matters = (

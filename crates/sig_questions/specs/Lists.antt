@@ -185,8 +185,8 @@ entry_questions keys e = entry_questions_under e (spki_named keys e.log_id)
 -- ---- all of them
 
 -- after those of certificates
-abbrev pub questions_behind : ArtifactDigest → Trust → LogKeys → Checked → List AcceptedRow
-questions_behind d trust keys c = sct_questions trust c ++ (content_questions d c ++ entry_questions keys c.entry)
+abbrev pub questions_after : ArtifactDigest → Trust → LogKeys → Checked → List AcceptedRow
+questions_after d trust keys c = sct_questions trust c ++ (content_questions d c ++ entry_questions keys c.entry)
 
 abbrev pub questions_of : ArtifactDigest → Trust → LogKeys → Checked → List AcceptedRow
-questions_of d trust keys c = certificate_questions trust c ++ questions_behind d trust keys c
+questions_of d trust keys c = certificate_questions trust c ++ questions_after d trust keys c

@@ -66,6 +66,6 @@ abbrev pub rows_of_paths : PossiblePaths → List AcceptedRow
 rows_of_paths paths = rows_of_signed paths.leaf ++ flat_map rows_of_signed paths.further.items
 
 -- and those after them
-abbrev pub rows_behind : PossiblePaths → TrustParts → ArtifactDigest → Checked → List AcceptedRow
-rows_behind paths trust d c = rows_of_points (point_at trust.keyring) paths.leaf
+abbrev pub rows_after : PossiblePaths → TrustParts → ArtifactDigest → Checked → List AcceptedRow
+rows_after paths trust d c = rows_of_points (point_at trust.keyring) paths.leaf
     ++ (content_questions d c ++ entry_questions trust.log_keys c.entry)

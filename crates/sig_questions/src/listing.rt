@@ -13,7 +13,7 @@ ghost use Rattle.sig_questions.specs.Listed.{AreListed, AreListedAs, AreListedUn
 ghost use Rattle.sig_questions.specs.Lists.{content_questions, entry_questions};
 ghost use Rattle.sig_questions.specs.Order.{AreInOrder, IsAskedAt};
 ghost use Rattle.sig_questions.specs.Questions.{AreQuestions, IsDecided, Suffices};
-ghost use Rattle.sig_questions.specs.Written.{AddsRows, rows_behind, rows_of_paths};
+ghost use Rattle.sig_questions.specs.Written.{AddsRows, rows_after, rows_of_paths};
 
 use crate::asked_root::{AskedRoot, AskedTrust};
 use crate::bytes::is_read_certificate;
@@ -282,7 +282,7 @@ fn list_paths(
     bundle: &CheckedBundle,
     most: usize,
 ) -> Result<OwnedList<AcceptedRow>, NoQuestions>
-    ensures listed { AreListedAs (rows_of_paths paths.now) (rows_of_paths paths.now ++ rows_behind paths.now trust.now
+    ensures listed { AreListedAs (rows_of_paths paths.now) (rows_of_paths paths.now ++ rows_after paths.now trust.now
         digest.now bundle.now) most result }
     ensures bytes { OnOk result (IsOfBytes trust.now.log_keys bundle.now.entry) }
 {
@@ -294,12 +294,12 @@ fn list_paths(
     if rows.rows.len() == 0 {
         return Err(NoQuestions::Link(Link::Issuer));
     }
-    push_behind(&mut rows, alloc, paths, trust, digest, bundle)?;
+    push_after(&mut rows, alloc, paths, trust, digest, bundle)?;
     Ok(rows.rows)
 }
 
 /// The rows after those of the certificate.
-fn push_behind(
+fn push_after(
     rows: &mut Rows,
     alloc: Global,
     paths: &PossiblePaths<'_>,
@@ -307,7 +307,7 @@ fn push_behind(
     digest: &ArtifactDigest,
     bundle: &CheckedBundle,
 ) -> Result<(), NoQuestions>
-    ensures written { AddsRows rows.old (rows_behind paths.now trust.now digest.now bundle.now) result rows.new }
+    ensures written { AddsRows rows.old (rows_after paths.now trust.now digest.now bundle.now) result rows.new }
     ensures bytes { OnOk result (IsOfBytes trust.now.log_keys bundle.now.entry) }
 {
     push_points(rows, alloc, &paths.leaf, &trust.keyring)?;

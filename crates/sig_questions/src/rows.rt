@@ -30,7 +30,7 @@ impl Rows {
     pub(crate) fn push(&mut self, alloc: Global, parts: &RowParts<'_>) -> Result<(), NoQuestions>
         ensures { AddsRows self.old (row_of_parts parts.now ∷ []) result self.new }
     {
-        let room = room_behind(self.room, parts)?;
+        let room = room_after(self.room, parts)?;
         let row = copy_of(alloc, parts)?;
         self.rows.push(row)?;
         self.room = room;
@@ -39,7 +39,7 @@ impl Rows {
 }
 
 /// What room is left after a row.
-fn room_behind(room: usize, parts: &RowParts<'_>) -> Result<usize, NoQuestions>
+fn room_after(room: usize, parts: &RowParts<'_>) -> Result<usize, NoQuestions>
     ensures { IsSpent room (row_bytes (row_of_parts parts.now)) result }
 {
     let room = room_left(room, parts.scheme)?;

@@ -62,15 +62,15 @@ cut_at-cut separator (b ∷ text) (c ∷ before) after some cut =
     ∙ ap (λ x. Some (x ∷ before, after)) same
 
 -- after the first byte, where the separator does not stand at it
-cut_behind : (separator text before after : List ℕ) (b : ℕ) → ((rest : List ℕ) → b ∷ text ≢ separator ++ rest)
+cut_later : (separator text before after : List ℕ) (b : ℕ) → ((rest : List ℕ) → b ∷ text ≢ separator ++ rest)
     → IsCut separator text before after → IsCut separator (b ∷ text) (b ∷ before) after
-cut_behind separator text before after b lacks cut = record {
+cut_later separator text before after b lacks cut = record {
   whole = ap (λ t. b ∷ t) cut.whole;
-  first = behind;
+  first = no_sooner;
 } where
-  behind : (front back : List ℕ) → b ∷ text ≡ front ++ (separator ++ back) → suc (length before) ≤ length front
-  behind [] back w = absurd (lacks back w)
-  behind (f ∷ front) back w =
+  no_sooner : (front back : List ℕ) → b ∷ text ≡ front ++ (separator ++ back) → suc (length before) ≤ length front
+  no_sooner [] back w = absurd (lacks back w)
+  no_sooner (f ∷ front) back w =
       let t : text ≡ front ++ (separator ++ back) = cc in let le = cut.first front back t in omega arith
 
 pub cut_at-some : (separator text before after : List ℕ) → cut_at separator text ≡ Some (before, after)
@@ -99,7 +99,7 @@ cut_at-some separator (b ∷ text) before after e = found _ _ refl refl (cut_at-
       λ rest w. (let at : after_separator separator (b ∷ text) ≡ Some rest = ap (after_separator separator) w
       ∙ after_separator-at separator rest in cc) in
       subst (λ x. IsCut separator (b ∷ text) x after) longer
-      (cut_behind separator text cut.0 after b lacks (deeper cut.0 after (l ∙ ap (λ y. Some (cut.0, y)) same)))
+      (cut_later separator text cut.0 after b lacks (deeper cut.0 after (l ∙ ap (λ y. Some (cut.0, y)) same)))
 
 pub cut_at-none : (separator text : List ℕ) → 0 < length separator → cut_at separator text ≡ None
     → Lacks separator text
@@ -394,13 +394,13 @@ unfolding trimmed
 trimmed-only mark text body is =
     ap (λ t. without_back mark (without_front mark t)) is.whole
     ∙ ap (without_back mark) (front_marks-off mark is.before (body ++ replicate is.after mark))
-    ∙ behind body is.front is.back where
-      behind : (t : List ℕ) → ((rest : List ℕ) → t ≢ mark ∷ rest) → ((rest : List ℕ) → t ≢ rest ++ mark ∷ [])
+    ∙ bare_body body is.front is.back where
+      bare_body : (t : List ℕ) → ((rest : List ℕ) → t ≢ mark ∷ rest) → ((rest : List ℕ) → t ≢ rest ++ mark ∷ [])
           → without_back mark (without_front mark (t ++ replicate is.after mark)) ≡ t
-      behind [] front back =
+      bare_body [] front back =
           ap (without_back mark) (ap (without_front mark) (sym (append-nil (replicate is.after mark)))
           ∙ front_marks-off mark is.after []) ∙ without_back-nil mark
-      behind (x ∷ t) front back =
+      bare_body (x ∷ t) front back =
           let kept : without_front mark ((x ∷ t) ++ replicate is.after mark) ≡ (x ∷ t) ++ replicate is.after mark =
           rw (ne_eqb x mark (λ same. front t (ap (λ y. y ∷ t) same))) refl in
           ap (without_back mark) kept ∙ back_marks-off mark is.after (x ∷ t) ∙ without_back-kept mark (x ∷ t) back

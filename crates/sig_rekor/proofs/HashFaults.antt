@@ -205,17 +205,17 @@ hashes-fail texts e is =
       fault = under (0 + length f.before) (length f.before) f.text e (omega arith) f.fault;
     }
 
-fails_behind : (place : ℕ) (before : List (List ℕ)) (text : List ℕ) (after : List (List ℕ)) (e : SigstoreError)
+fails_after : (place : ℕ) (before : List (List ℕ)) (text : List ℕ) (after : List (List ℕ)) (e : SigstoreError)
     → AreHashTexts before → IsHashFault (HashLength (place + length before)) text e
     → hashes_from place (before ++ text ∷ after) ≡ Err e
-fails_behind place [] text after e sound fault =
+fails_after place [] text after e sound fault =
     rw (hash-only_fails (HashLength place) text e (under (place + 0) place text e (omega arith) fault)) refl
-fails_behind place (first ∷ before) text after e sound fault =
+fails_after place (first ∷ before) text after e sound fault =
     let hash = hash_of first sound.0 in
     let there = under (place + suc (length before)) (place + 1 + length before) text e (omega arith) fault in
     rw (
       hash-only (HashLength place) first hash.0 hash.1,
-      fails_behind (place + 1) before text after e sound.1
+      fails_after (place + 1) before text after e sound.1
           there,
     ) refl
 
@@ -223,7 +223,7 @@ pub hashes-only_fail : (texts : List (List ℕ)) (e : SigstoreError) → IsHashe
     → hashes_from 0 texts ≡ Err e
 hashes-only_fail texts e is =
     let here = under (length is.before) (0 + length is.before) is.text e (omega arith) is.fault in
-    rw is.split (fails_behind 0 is.before is.text is.after e is.sound here)
+    rw is.split (fails_after 0 is.before is.text is.after e is.sound here)
 
 -- ---- each in one
 

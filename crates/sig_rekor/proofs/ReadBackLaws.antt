@@ -92,7 +92,7 @@ signature_between s n m name value =
     let coded = base64_text (fingerprint_and_raw s) in
     signature-only (replicate n 10 ++ (signature_line s ++ replicate m 10)) s (record {
       line = signature_line s;
-      behind_dash = space ++ (s.name ++ (space ++ coded));
+      after_dash = space ++ (s.name ++ (space ++ coded));
       first = em_dash;
       coded = coded;
       newlines = record {
@@ -194,8 +194,8 @@ piece_cut : (n : ℕ) (s : CheckpointSignature) (t : List ℕ) → n < 2 → IsF
     ≡ onto_cut (replicate n 10 ++ signature_line s) (cut_at empty_line t)
 piece_cut zero s t small free = cut_past 10 newline (signature_line s) t free
 piece_cut (suc zero) s t small free =
-    let behind = 128 ∷ 148 ∷ (space ++ (s.name ++ (space ++ base64_text (fingerprint_and_raw s)))) in
-    cut_apart 226 (behind ++ t) apart ∙ ap (onto_cut newline) (cut_past 10 newline (signature_line s) t free)
+    let after = 128 ∷ 148 ∷ (space ++ (s.name ++ (space ++ base64_text (fingerprint_and_raw s)))) in
+    cut_apart 226 (after ++ t) apart ∙ ap (onto_cut newline) (cut_past 10 newline (signature_line s) t free)
     ∙ onto_onto newline (signature_line s) (cut_at empty_line t)
 piece_cut (suc (suc n)) s t small free = absurd (omega arith)
 
@@ -285,10 +285,10 @@ note_written : (note : Checkpoint) (tail : List ℕ)
 unfolding note_text
 note_written note tail =
     let hash = base64_text note.hash in
-    let behind = flat_map content_line note.other_content in
-    append_assoc note.origin (newline ++ (decimal note.size ++ (newline ++ (hash ++ (newline ++ behind))))) tail
-    ∙ ap (λ t. note.origin ++ 10 ∷ t) (append_assoc (decimal note.size) (newline ++ (hash ++ (newline ++ behind))) tail
-    ∙ ap (λ t. decimal note.size ++ 10 ∷ t) (append_assoc hash (newline ++ behind) tail
+    let after = flat_map content_line note.other_content in
+    append_assoc note.origin (newline ++ (decimal note.size ++ (newline ++ (hash ++ (newline ++ after))))) tail
+    ∙ ap (λ t. note.origin ++ 10 ∷ t) (append_assoc (decimal note.size) (newline ++ (hash ++ (newline ++ after))) tail
+    ∙ ap (λ t. decimal note.size ++ 10 ∷ t) (append_assoc hash (newline ++ after) tail
     ∙ contents_written hash note.other_content tail))
 
 base64-some : (m : List ℕ) → 0 < length m → 0 < length (base64_text m)

@@ -116,7 +116,7 @@ signature-fails text fault e = by_line (line_of text) refl where
       let f = rw is at e in
       let same : other ≡ fault = cc in
       inl (
-        λ (line, behind, trims, dash). (let good = line-only text line behind trims dash in
+        λ (line, after, trims, dash). (let good = line-only text line after trims dash in
             let g : ◌≡◌ {A = Result (List ℕ) CheckpointFault} (Ok line) (Err other) = sym good ∙ is in cc),
         dash-fault text fault (is ∙ ap Err same),
       )
@@ -129,7 +129,7 @@ signature-keeps text s is =
     λ P holds. (is.line, is.first, s.name, is.coded, is.newlines, is.parts, holds) in
     let four : 4 ≤ length (fingerprint_and_raw s) = omega
     (arith, length-append s.key_fingerprint s.raw, is.fingerprint) in (
-      (is.line, is.behind_dash, is.newlines, is.dash),
+      (is.line, is.after_dash, is.newlines, is.dash),
       (
         third (λ _. ⊤) tt,
         (

@@ -33,14 +33,14 @@ line-found text line e =
       | inr none ↦ (let f = none.1 in cc)
     ]
 
-pub line-only : (text line behind : List ℕ) → IsTrimmed 10 text line → line ≡ em_dash ++ behind
+pub line-only : (text line after : List ℕ) → IsTrimmed 10 text line → line ≡ em_dash ++ after
     → line_of text ≡ Ok line
 unfolding line_of
-line-only text line behind is dash =
+line-only text line after is dash =
     rw (
       trimmed-only 10 text line is,
       (starts_is Decides-eqb line em_dash (starts_with nat_eq line em_dash) refl).1
-          behind dash,
+          after dash,
     ) refl
 
 -- three parts
@@ -89,7 +89,7 @@ signature-found text s e =
     let made = signature_by-found b.0.0 c.0 s c.2 in
     record {
       line = a.0;
-      behind_dash = drop 3 a.0;
+      after_dash = drop 3 a.0;
       first = three.0;
       coded = b.0.1;
       newlines = line.0;
@@ -106,7 +106,7 @@ pub signature-only : (text : List ℕ) (s : CheckpointSignature) → IsSignature
 unfolding signature_of base64_of
 signature-only text s is =
     rw (
-      line-only text is.line is.behind_dash is.newlines is.dash,
+      line-only text is.line is.after_dash is.newlines is.dash,
       parts_between-only space is.line (is.first ∷ s.name ∷ is.coded ∷ []) (omega arith) is.parts,
       is.bytes,
     ) (signature_by-only s is.fingerprint)

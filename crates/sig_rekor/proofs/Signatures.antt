@@ -111,30 +111,30 @@ pub no_part : (line : List ℕ) → None ≡ cut_at space line → name_and_byte
     ≡ Err SignatureFormat
 no_part line e = rw (parts_between-whole space line (sym e)) refl
 
-pub two_parts : (line first behind : List ℕ) → Some (first, behind) ≡ cut_at space line → None ≡ cut_at space behind
+pub two_parts : (line first after : List ℕ) → Some (first, after) ≡ cut_at space line → None ≡ cut_at space after
     → name_and_bytes (parts_between space line) ≡ Err SignatureFormat
-two_parts line first behind e f =
-    rw (parts_between-cut space line first behind (omega arith) (sym e), parts_between-whole space behind (sym f)) refl
+two_parts line first after e f =
+    rw (parts_between-cut space line first after (omega arith) (sym e), parts_between-whole space after (sym f)) refl
 
-pub just_three : (line first behind name coded : List ℕ) → Some (first, behind) ≡ cut_at space line
-    → Some (name, coded) ≡ cut_at space behind → None ≡ cut_at space coded
+pub just_three : (line first after name coded : List ℕ) → Some (first, after) ≡ cut_at space line
+    → Some (name, coded) ≡ cut_at space after → None ≡ cut_at space coded
     → name_and_bytes (parts_between space line) ≡ Ok (name, coded)
-just_three line first behind name coded e f g =
+just_three line first after name coded e f g =
     rw (
-      parts_between-cut space line first behind (omega arith) (sym e),
-      parts_between-cut space behind name coded (omega arith)
+      parts_between-cut space line first after (omega arith) (sym e),
+      parts_between-cut space after name coded (omega arith)
           (sym f),
       parts_between-whole space coded (sym g),
     ) refl
 
-pub more_parts : (line first behind name coded more last : List ℕ) → Some (first, behind) ≡ cut_at space line
-    → Some (name, coded) ≡ cut_at space behind → Some (more, last) ≡ cut_at space coded
+pub more_parts : (line first after name coded more last : List ℕ) → Some (first, after) ≡ cut_at space line
+    → Some (name, coded) ≡ cut_at space after → Some (more, last) ≡ cut_at space coded
     → name_and_bytes (parts_between space line) ≡ Err SignatureFormat
-more_parts line first behind name coded more last e f g =
+more_parts line first after name coded more last e f g =
     let p = parts_between-first space last in
     rw (
-      parts_between-cut space line first behind (omega arith) (sym e),
-      parts_between-cut space behind name coded (omega arith)
+      parts_between-cut space line first after (omega arith) (sym e),
+      parts_between-cut space after name coded (omega arith)
           (sym f),
       parts_between-cut space coded more last (omega arith) (sym g),
       p.2,

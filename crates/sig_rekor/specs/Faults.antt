@@ -50,7 +50,7 @@ OfThird text P =
 
 -- what a rule asks of a signature: an em dash, three parts, the third in base64, and of at least four bytes
 abbrev pub SignatureKeeps : List ℕ → CheckpointFault → Type 0
-SignatureKeeps text NoDash = (line behind : List ℕ) × IsTrimmed line_feed text line × (line ≡ em_dash ++ behind)
+SignatureKeeps text NoDash = (line after : List ℕ) × IsTrimmed line_feed text line × (line ≡ em_dash ++ after)
 SignatureKeeps text SignatureFormat = OfThird text (λ coded. ⊤)
 SignatureKeeps text SignatureBase64 = OfThird text (λ coded. OfBytes (trim_end coded) (λ bytes. ⊤))
 SignatureKeeps text SignatureLength =

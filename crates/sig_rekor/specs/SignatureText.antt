@@ -34,11 +34,11 @@ fingerprint_and_raw signature = signature.key_fingerprint ++ signature.raw
 -- and the signature's
 pub record IsSignature (text : List ℕ) (signature : CheckpointSignature) : Type 0 where
   pub line : List ℕ
-  pub behind_dash : List ℕ
+  pub after_dash : List ℕ
   pub first : List ℕ
   pub coded : List ℕ
   pub newlines : IsTrimmed line_feed text line
-  pub dash : line ≡ em_dash ++ behind_dash
+  pub dash : line ≡ em_dash ++ after_dash
   pub parts : IsParts space line (first ∷ signature.name ∷ coded ∷ [])
   pub bytes : base64_bytes (trim_end coded) ≡ Some (fingerprint_and_raw signature)
   pub fingerprint : length signature.key_fingerprint ≡ fingerprint_len

@@ -102,8 +102,8 @@ fn name_and_bytes(line: &str) -> Option<(&str, &str)>
     ensures { name_and_bytes (parts_between space line.now) ≡ ok_or
         (option_map (λ x. (x.0.now, x.1.now)) result) SignatureFormat }
 {
-    let (_, behind) = cut(line, " ")?;
-    let (name, coded) = cut(behind, " ")?;
+    let (_, after) = cut(line, " ")?;
+    let (name, coded) = cut(after, " ")?;
     match cut(coded, " ") {
         Some(_) => None,
         None => Some((name, coded)),

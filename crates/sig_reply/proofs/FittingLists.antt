@@ -14,19 +14,19 @@ as-long one other same =
     omega (arith, long, length-append one (codes "\n"), length-append other (codes "\n"))
 
 -- a list of these signatures that fits beside a text does so wherever the text is cut
-inserted : (front behind list : List ℕ) (rows : List AcceptedRow) → length list ≡ length (rows_text rows)
-    → FitsBeside (front ++ behind) rows → length (front ++ (accepted_name ++ (list ++ behind))) ≤ most_bytes
-inserted front behind list rows same fits =
+inserted : (front after list : List ℕ) (rows : List AcceptedRow) → length list ≡ length (rows_text rows)
+    → FitsBeside (front ++ after) rows → length (front ++ (accepted_name ++ (list ++ after))) ≤ most_bytes
+inserted front after list rows same fits =
     omega (
       arith,
       fits,
       same,
-      length-append front behind,
-      length-append front (accepted_name ++ (list ++ behind)),
-      length-append accepted_name (list ++ behind),
-      length-append list behind,
+      length-append front after,
+      length-append front (accepted_name ++ (list ++ after)),
+      length-append accepted_name (list ++ after),
+      length-append list after,
     )
 
 pub wherever_put : FitsWhereverPut
-wherever_put front behind list rows same fits =
-    inserted front behind list rows (as-long list (rows_text rows) same) fits
+wherever_put front after list rows same fits =
+    inserted front after list rows (as-long list (rows_text rows) same) fits

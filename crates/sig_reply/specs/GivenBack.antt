@@ -9,5 +9,5 @@ use Rattle.sig_request.specs.Limit.{most_bytes}
 -- `accepted`, before its last brace or wherever else, has at most as many bytes as a request may have
 abbrev pub FitsWhereverPut : Type 0
 FitsWhereverPut =
-    (front behind list : List ℕ) (rows : List AcceptedRow) → listed list ≡ listed (rows_text rows)
-    → FitsBeside (front ++ behind) rows → length (front ++ (accepted_name ++ (list ++ behind))) ≤ most_bytes
+    (front after list : List ℕ) (rows : List AcceptedRow) → listed list ≡ listed (rows_text rows)
+    → FitsBeside (front ++ after) rows → length (front ++ (accepted_name ++ (list ++ after))) ≤ most_bytes

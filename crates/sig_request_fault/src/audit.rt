@@ -14,8 +14,8 @@ use crate::row::{AcceptedTable, EntriesTable, SchemeTable};
 use sig_base::OutOfMemory;
 use sig_json::Json;
 use sig_table::{
-    BytesTable, Cause, HashTable, ListOf, MemberTable, TableError, TextTable, behind_index,
-    behind_name, fault_here, length_between, member, object, optional, required, required_below,
+    BytesTable, Cause, HashTable, ListOf, MemberTable, TableError, TextTable, after_index,
+    after_name, fault_here, length_between, member, object, optional, required, required_below,
     required_u64,
 };
 use std::alloc::Global;
@@ -73,7 +73,7 @@ fn watched(alloc: Global, json: Json<'_, '_>, count: usize) -> Result<(), TableE
     match member(json, "watched") {
         Some(value) => match few_watches(alloc, value, count) {
             Ok(()) => Ok(()),
-            Err(error) => Err(behind_name(alloc, "watched", error)),
+            Err(error) => Err(after_name(alloc, "watched", error)),
         },
         None => Ok(()),
     }
@@ -104,7 +104,7 @@ fn watches(alloc: Global, json: Json<'_, '_>, count: usize) -> Result<(), TableE
             unreachable!()
         };
         if let Err(error) = watch(alloc, element, count) {
-            return Err(behind_index(index, error));
+            return Err(after_index(index, error));
         }
     }
     Ok(())

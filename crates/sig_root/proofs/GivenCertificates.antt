@@ -57,7 +57,7 @@ given now [] c h = absurd (none c h)
 given now (a ∷ group) c h =
     elim (Contains-append_cases (certificates_at now a) (authority_certificates now group) c h) [
       | inl here ↦ begun_here now a group c (has_begun now a.valid_for) refl here
-      | inr behind ↦ later now a group c (given now group c behind)
+      | inr after ↦ later now a group c (given now group c after)
     ]
 
 of_authority : (now : ℤ) (group : List Authority) (a : Authority) (held : List (List ℕ)) (c : List ℕ) → Contains group a
@@ -69,9 +69,9 @@ of_authority now (b ∷ group) a held c among begun chain has =
       | inl same ↦
           let here : Contains (certificates_at now b) c = rw (same, begun, chain) has in
           Contains-append_left (certificates_at now b) (authority_certificates now group) c here
-      | inr behind ↦
+      | inr after ↦
           Contains-append_right (certificates_at now b) (authority_certificates now group) c
-          (of_authority now group a held c behind begun chain has)
+          (of_authority now group a held c after begun chain has)
     ]
 
 pub given_again : (now : ℤ) (group : List Authority) (c : List ℕ) → IsGiven now group c

@@ -18,9 +18,9 @@ Keys = List (List ℕ × List ℕ)
 abbrev NoneGives : ℤ → List Instance → List ℕ → Type 0
 NoneGives now instances id = (index : ℕ) (key : List ℕ) → ¬ GivesAt now instances index id key
 
-none_behind : (now : ℤ) (i : Instance) (is : List Instance) (id : List ℕ) → NoneGives now (i ∷ is) id
+none_after : (now : ℤ) (i : Instance) (is : List Instance) (id : List ℕ) → NoneGives now (i ∷ is) id
     → NoneGives now is id
-none_behind now i is id none index key gives = none (suc index) key gives
+none_after now i is id none index key gives = none (suc index) key gives
 
 -- what an instance puts at another log id does not matter
 other_put : (id : List ℕ) (found : Option (List ℕ × List ℕ)) (keys : Keys) → ((key : List ℕ) → found ≢ Some (id, key))
@@ -33,7 +33,7 @@ kept : (now : ℤ) (is : List Instance) (id : List ℕ) (keys : Keys) → NoneGi
     → text_lookup id (put_instances now is keys) ≡ text_lookup id keys
 kept now [] id keys none = refl
 kept now (i ∷ is) id keys none =
-    kept now is id (put_instance now i keys) (none_behind now i is id none)
+    kept now is id (put_instance now i keys) (none_after now i is id none)
     ∙ other_put id (key_at now i) keys (λ key gives. none zero key (i, refl, gives))
 
 -- the last instance of the id is found
@@ -60,11 +60,11 @@ Found now is id key keys = IsLastKey now is id key ⊎ (NoneGives now is id × (
 
 further : (now : ℤ) (i : Instance) (is : List Instance) (id key : List ℕ) → IsLastKey now is id key
     → IsLastKey now (i ∷ is) id key
-further now i is id key last = record { index = suc last.index; gives = last.gives; last = behind }
+further now i is id key last = record { index = suc last.index; gives = last.gives; last = after }
   where
-    behind : (later : ℕ) (other : List ℕ) → suc last.index < later → ¬ GivesAt now (i ∷ is) later id other
-    behind zero other lt gives = omega (arith, lt)
-    behind (suc later) other lt gives = last.last later other (omega (arith, lt)) gives
+    after : (later : ℕ) (other : List ℕ) → suc last.index < later → ¬ GivesAt now (i ∷ is) later id other
+    after zero other lt gives = omega (arith, lt)
+    after (suc later) other lt gives = last.last later other (omega (arith, lt)) gives
 
 module _ (now : ℤ) (i : Instance) (is : List Instance) (id key : List ℕ) (none : NoneGives now is id) where
   none_ahead : ((key : List ℕ) → key_at now i ≢ Some (id, key)) → NoneGives now (i ∷ is) id

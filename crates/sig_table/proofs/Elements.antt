@@ -92,14 +92,14 @@ pub element_sound : (inside : Data → Option MemberFault) (d e : Data) (count i
 element_sound inside d e count i counted h is sound =
     rw (next_element d e count i counted h is, none_wrong (inside e) sound) refl
 
-wrong_behind : (found others : Option MemberFault) (step : Step) (error result : TableError)
+wrong_after : (found others : Option MemberFault) (step : Step) (error result : TableError)
     → OrMemory OutOfMemory error (or_fault found ≡ Err error)
     → OrMemory OutOfMemory result (result ≡ error_under step error)
     → OrMemory OutOfMemory result (or_fault (or_else (option_map (under step) found) others) ≡ Err result)
-wrong_behind found others step error result wrong (inl memory) = inl memory
-wrong_behind found others step error result (inl memory) (inr is) = inl (rw memory at is)
-wrong_behind None others step error result (inr wrong) (inr is) = cc
-wrong_behind (Some fault) others step error result (inr wrong) (inr is) =
+wrong_after found others step error result wrong (inl memory) = inl memory
+wrong_after found others step error result (inl memory) (inr is) = inl (rw memory at is)
+wrong_after None others step error result (inr wrong) (inr is) = cc
+wrong_after (Some fault) others step error result (inr wrong) (inr is) =
     let same : error ≡ Fault fault = cc in
     let told : result ≡ Fault (under step fault) = rw same at is in
     inr (ap Err (sym told))
@@ -110,8 +110,8 @@ pub element_wrong : (inside : Data → Option MemberFault) (d e : Data) (count i
     → OrMemory OutOfMemory result (result ≡ error_under (Index i) error)
     → whole ≡ elements_fault inside i (drop i (elements_of d))
     → OrMemory OutOfMemory result (or_fault whole ≡ Err result)
-element_wrong inside d e count i error result whole counted h is wrong behind so_far =
+element_wrong inside d e count i error result whole counted h is wrong after so_far =
     rw (so_far, next_element d e count i counted h is)
-    (wrong_behind (inside e) (elements_fault inside (i + 1) (drop (i + 1) (elements_of d))) (Index i) error result wrong behind)
+    (wrong_after (inside e) (elements_fault inside (i + 1) (drop (i + 1) (elements_of d))) (Index i) error result wrong after)
 
 pub ruleset elements = (element_there, element_sound, element_wrong, start_of_list, end_of_list, no_list)

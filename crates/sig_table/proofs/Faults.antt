@@ -12,7 +12,7 @@ use Rattle.sig_json.specs.Find.{as_object}
 use Rattle.sig_json.specs.List.{list_of}
 use Rattle.sig_table.specs.Fault.{at_name, elements_fault, fault_of, fault_there, here, list_fault, object_fault}
 use Rattle.sig_table.specs.Fault.{oneof_fault, or_fault, row_fault, rows_fault, under}
-use Rattle.sig_table.specs.First.{Behind, Breaks, BreaksRow, IsFirstElement, IsFirstFault, IsFirstRow, IsHere}
+use Rattle.sig_table.specs.First.{After, Breaks, BreaksRow, IsFirstElement, IsFirstFault, IsFirstRow, IsHere}
 use Rattle.sig_table.specs.First.{IsSecond}
 use Rattle.sig_table.specs.Table.{Table, leaf, elements, members, chosen, Row, required_row, optional_row, oneof_row, Rows}
 use Rattle.sig_table.specs.Table.{no_rows, row, at_most_one, each_passes, fits, is_empty, member_in, names_there, passes}
@@ -110,10 +110,10 @@ mutual
 abbrev pub Says : (List Step → Cause → Type 0) → Option MemberFault → Type 0
 Says P found = MatchOption found (Unit {0}) (λ fault. P fault.path fault.cause)
 
-behind_says : (step : Step) (Inside : Breaks) (d : Data) (found : Option MemberFault) → Says (Inside d) found
-    → Says (Behind step Inside d) (option_map (under step) found)
-behind_says step Inside d None says = tt
-behind_says step Inside d (Some fault) says = (fault.path, refl, says)
+step_says : (step : Step) (Inside : Breaks) (d : Data) (found : Option MemberFault) → Says (Inside d) found
+    → Says (After step Inside d) (option_map (under step) found)
+step_says step Inside d None says = tt
+step_says step Inside d (Some fault) says = (fault.path, refl, says)
 
 or_says : (P Q : List Step → Cause → Type 0) (holds : Bool) (found other : Option MemberFault)
     → is_none found ≡ holds → Says P found → Says Q other
@@ -169,16 +169,16 @@ module _ (inside : Data → Option MemberFault) (test : Data → Bool) (same : (
   list_says (Some ds) = elements_say [] ds tt
 
   required_says : (name : List ℕ) (d : Data) (found : Option Data)
-      → Says (λ path cause. MatchOption found (Behind (Name name) (λ _. IsHere Absent) d path cause)
-      (λ value. Behind (Name name) Inside value path cause)) (at_name name (fault_there (Some (here Absent)) inside found))
+      → Says (λ path cause. MatchOption found (After (Name name) (λ _. IsHere Absent) d path cause)
+      (λ value. After (Name name) Inside value path cause)) (at_name name (fault_there (Some (here Absent)) inside found))
   required_says name d None = ([], refl, (refl, refl))
-  required_says name d (Some value) = behind_says (Name name) Inside value (inside value) (says value)
+  required_says name d (Some value) = step_says (Name name) Inside value (inside value) (says value)
 
   optional_says : (name : List ℕ) (found : Option Data)
-      → Says (λ path cause. MatchOption found ⊥ (λ value. Behind (Name name) Inside value path cause))
+      → Says (λ path cause. MatchOption found ⊥ (λ value. After (Name name) Inside value path cause))
       (at_name name (fault_there None inside found))
   optional_says name None = tt
-  optional_says name (Some value) = behind_says (Name name) Inside value (inside value) (says value)
+  optional_says name (Some value) = step_says (Name name) Inside value (inside value) (says value)
 
 after_says : (first : List ℕ) (names : List (List ℕ)) (d : Data)
     → Says (IsSecond (first ∷ names_there names d)) (oneof_fault true names d)
@@ -234,9 +234,9 @@ abbrev Tells : (List Step → Cause → Type 0) → Option MemberFault → Type 
 Tells P found =
     (path : List Step) (cause : Cause) → P path cause → found ≡ Some (record { path = path; cause = cause })
 
-behind_tells : (step : Step) (Inside : Breaks) (d : Data) (found : Option MemberFault) → Tells (Inside d) found
-    → Tells (Behind step Inside d) (option_map (under step) found)
-behind_tells step Inside d found tells path cause is = rw (tells is.0 cause is.2, is.1) refl
+step_tells : (step : Step) (Inside : Breaks) (d : Data) (found : Option MemberFault) → Tells (Inside d) found
+    → Tells (After step Inside d) (option_map (under step) found)
+step_tells step Inside d found tells path cause is = rw (tells is.0 cause is.2, is.1) refl
 
 or_tells : (P Q : List Step → Cause → Type 0) (holds : Bool) (found other : Option MemberFault)
     → is_none found ≡ holds → Tells P found → Tells Q other
@@ -258,10 +258,10 @@ module _ (inside : Data → Option MemberFault) (test : Data → Bool) (same : (
     (Inside : Breaks) (tells : (d : Data) → Tells (Inside d) (inside d)) where
   elements_tell : (i k : ℕ) (before : List Data) (d : Data) (after : List Data)
       → AllByRecursion (λ e. IsTrue (test e)) before → k ≡ i + length before
-      → Tells (Behind (Index k) Inside d) (elements_fault inside i (before ++ d ∷ after))
+      → Tells (After (Index k) Inside d) (elements_fault inside i (before ++ d ∷ after))
   elements_tell i k [] d after sound place path cause is =
       let here_it_is : k ≡ i = omega arith in
-      rw (behind_tells (Index i) Inside d (inside d) (tells d) path cause (rw here_it_is at is)) refl
+      rw (step_tells (Index i) Inside d (inside d) (tells d) path cause (rw here_it_is at is)) refl
   elements_tell i k (b ∷ before) d after sound place path cause is =
       rw (none_from (inside b) (test b) (same b) sound.0)
       (elements_tell (i + 1) k before d after sound.1 (omega arith) path cause is)
@@ -274,16 +274,16 @@ module _ (inside : Data → Option MemberFault) (test : Data → Bool) (same : (
       rw is.split (elements_tell 0 (length is.before) is.before is.element is.after is.sound (omega arith) path cause is.wrong)
 
   required_tells : (name : List ℕ) (d : Data) (found : Option Data)
-      → Tells (λ path cause. MatchOption found (Behind (Name name) (λ _. IsHere Absent) d path cause)
-      (λ value. Behind (Name name) Inside value path cause)) (at_name name (fault_there (Some (here Absent)) inside found))
+      → Tells (λ path cause. MatchOption found (After (Name name) (λ _. IsHere Absent) d path cause)
+      (λ value. After (Name name) Inside value path cause)) (at_name name (fault_there (Some (here Absent)) inside found))
   required_tells name d None = λ path cause is. rw (is.1, is.2.0, is.2.1) refl
-  required_tells name d (Some value) = behind_tells (Name name) Inside value (inside value) (tells value)
+  required_tells name d (Some value) = step_tells (Name name) Inside value (inside value) (tells value)
 
   optional_tells : (name : List ℕ) (found : Option Data)
-      → Tells (λ path cause. MatchOption found ⊥ (λ value. Behind (Name name) Inside value path cause))
+      → Tells (λ path cause. MatchOption found ⊥ (λ value. After (Name name) Inside value path cause))
       (at_name name (fault_there None inside found))
   optional_tells name None = λ path cause is. absurd is
-  optional_tells name (Some value) = behind_tells (Name name) Inside value (inside value) (tells value)
+  optional_tells name (Some value) = step_tells (Name name) Inside value (inside value) (tells value)
 
 after_tells : (second : List ℕ) (others names : List (List ℕ)) (d : Data) → names_there names d ≡ second ∷ others
     → oneof_fault true names d ≡ at_name second (Some (here NotAlone))

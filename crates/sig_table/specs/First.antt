@@ -17,8 +17,8 @@ abbrev pub Breaks : Type 1
 Breaks = Data → List Step → Cause → Type 0
 
 -- the path begins with this step, and after it something is wrong with the value
-abbrev pub Behind : Step → Breaks → Breaks
-Behind step Inside d path cause = (rest : List Step) × (path ≡ step ∷ rest) × Inside d rest cause
+abbrev pub After : Step → Breaks → Breaks
+After step Inside d path cause = (rest : List Step) × (path ≡ step ∷ rest) × Inside d rest cause
 
 -- the value itself is wrong
 abbrev pub IsHere : Cause → List Step → Cause → Type 0
@@ -32,7 +32,7 @@ pub record IsFirstElement (test : Data → Bool) (Inside : Breaks) (ds : List Da
   pub after : List Data
   pub split : ds ≡ before ++ element ∷ after
   pub sound : AllByRecursion (λ d. IsTrue (test d)) before
-  pub wrong : Behind (Index (length before)) Inside element path cause
+  pub wrong : After (Index (length before)) Inside element path cause
 
 -- of the members that are there, one is the second
 pub record IsSecond (there : List (List ℕ)) (path : List Step) (cause : Cause) : Type 0 where
@@ -61,10 +61,10 @@ abbrev mutual
 
   pub BreaksRow : Row → Breaks
   BreaksRow (required_row name table) d path cause =
-      MatchOption (member_in name d) (Behind (Name name) (λ _. IsHere Absent) d path cause)
-      (λ value. Behind (Name name) (IsFirstFault table) value path cause)
+      MatchOption (member_in name d) (After (Name name) (λ _. IsHere Absent) d path cause)
+      (λ value. After (Name name) (IsFirstFault table) value path cause)
   BreaksRow (optional_row name table) d path cause =
-      MatchOption (member_in name d) ⊥ (λ value. Behind (Name name) (IsFirstFault table) value path cause)
+      MatchOption (member_in name d) ⊥ (λ value. After (Name name) (IsFirstFault table) value path cause)
   BreaksRow (oneof_row names) d path cause = IsSecond (names_there names d) path cause
 
 -- a tree keeps to a table, or this is the first fault

@@ -12,7 +12,7 @@ ghost use Rattle.sig_json.specs.Data.{Data};
 
 use crate::fault::{Cause, TableError};
 use crate::rows::member;
-use crate::table::{behind_name, fault_here};
+use crate::table::{after_name, fault_here};
 use sig_json::{Json, read_i64, read_u64};
 use std::alloc::Global;
 
@@ -37,7 +37,7 @@ fn row_of(alloc: Global, name: &str, value: Json<'_, '_>, is_read: bool) -> Resu
     if is_read {
         return Ok(());
     }
-    Err(behind_name(alloc, name, fault_here(alloc, integer_cause(value))))
+    Err(after_name(alloc, name, fault_here(alloc, integer_cause(value))))
 }
 
 /// What is wrong with a value that is not an integer of the range of a kind.
@@ -92,7 +92,7 @@ pub fn required_i64(alloc: Global, json: Json<'_, '_>, name: &str) -> Result<(),
 {
     match member(json, name) {
         Some(value) => row_of(alloc, name, value, read_i64(json, name).is_ok()),
-        None => Err(behind_name(alloc, name, fault_here(alloc, Cause::Absent))),
+        None => Err(after_name(alloc, name, fault_here(alloc, Cause::Absent))),
     }
 }
 
@@ -105,7 +105,7 @@ pub fn required_u64(alloc: Global, json: Json<'_, '_>, name: &str) -> Result<(),
 {
     match member(json, name) {
         Some(value) => row_of(alloc, name, value, read_u64(json, name).is_ok()),
-        None => Err(behind_name(alloc, name, fault_here(alloc, Cause::Absent))),
+        None => Err(after_name(alloc, name, fault_here(alloc, Cause::Absent))),
     }
 }
 
@@ -122,7 +122,7 @@ pub fn required_below(
 {
     match member(json, name) {
         Some(value) => row_of(alloc, name, value, is_below(json, name, end)),
-        None => Err(behind_name(alloc, name, fault_here(alloc, Cause::Absent))),
+        None => Err(after_name(alloc, name, fault_here(alloc, Cause::Absent))),
     }
 }
 

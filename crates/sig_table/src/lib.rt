@@ -39,4 +39,4 @@ pub use kind::{AnyObject, BytesTable, HashTable, Nothing, ReadBy, TextTable};
 pub use list::{ListOf, length_between, not_empty};
 pub use path::{MemberPath, Step};
 pub use rows::{at_most_one, member, object, optional, required};
-pub use table::{MemberTable, behind_index, behind_name, fault_here};
+pub use table::{MemberTable, after_index, after_name, fault_here};

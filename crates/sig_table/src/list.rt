@@ -7,7 +7,7 @@ ghost use Rattle.sig_table.specs.Fault.{fault_of, here, or_fault};
 ghost use Rattle.sig_table.specs.Table.{elements};
 
 use crate::fault::{Cause, TableError};
-use crate::table::{MemberTable, behind_index, fault_here};
+use crate::table::{MemberTable, after_index, fault_here};
 use sig_json::Json;
 use std::alloc::Global;
 use std::marker::PhantomData;
@@ -31,7 +31,7 @@ impl<T: MemberTable> MemberTable for ListOf<T> {
                 unreachable!()
             };
             if let Err(error) = T::check(alloc, element) {
-                return Err(behind_index(index, error));
+                return Err(after_index(index, error));
             }
         }
         Ok(())

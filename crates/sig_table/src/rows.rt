@@ -8,7 +8,7 @@ ghost use Rattle.sig_table.specs.Fault.{object_fault, or_fault, row_fault};
 ghost use Rattle.sig_table.specs.Table.{member_in, oneof_row, optional_row, required_row};
 
 use crate::fault::{Cause, TableError};
-use crate::table::{MemberTable, behind_name, fault_here};
+use crate::table::{MemberTable, after_name, fault_here};
 use sig_json::Json;
 use std::alloc::Global;
 
@@ -44,9 +44,9 @@ pub fn required<T: MemberTable>(
     match member(json, name) {
         Some(value) => match T::check(alloc, value) {
             Ok(()) => Ok(()),
-            Err(error) => Err(behind_name(alloc, name, error)),
+            Err(error) => Err(after_name(alloc, name, error)),
         },
-        None => Err(behind_name(alloc, name, fault_here(alloc, Cause::Absent))),
+        None => Err(after_name(alloc, name, fault_here(alloc, Cause::Absent))),
     }
 }
 
@@ -62,7 +62,7 @@ pub fn optional<T: MemberTable>(
     match member(json, name) {
         Some(value) => match T::check(alloc, value) {
             Ok(()) => Ok(()),
-            Err(error) => Err(behind_name(alloc, name, error)),
+            Err(error) => Err(after_name(alloc, name, error)),
         },
         None => Ok(()),
     }
@@ -77,7 +77,7 @@ pub fn at_most_one(alloc: Global, json: Json<'_, '_>, names: &[&str]) -> Result<
     'names: for name in names {
         if member(json, name).is_some() {
             if found {
-                return Err(behind_name(alloc, name, fault_here(alloc, Cause::NotAlone)));
+                return Err(after_name(alloc, name, fault_here(alloc, Cause::NotAlone)));
             }
             found = true;
         }

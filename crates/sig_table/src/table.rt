@@ -35,17 +35,17 @@ pub fn fault_here(alloc: Global, cause: Cause) -> TableError
 }
 
 /// What the check of an object fails with where that of the member of this name fails so.
-pub fn behind_name(alloc: Global, name: &str, error: TableError) -> TableError
+pub fn after_name(alloc: Global, name: &str, error: TableError) -> TableError
     ensures { OrMemory TableError.OutOfMemory result (result ≡ error_under (Name name.now) error) }
 {
     match Text::copy_of(alloc, name) {
-        Ok(name) => behind(error, Step::Name(name)),
+        Ok(name) => after(error, Step::Name(name)),
         Err(_) => TableError::OutOfMemory,
     }
 }
 
 /// The same error, with this step put before its path.
-fn behind(error: TableError, step: Step) -> TableError
+fn after(error: TableError, step: Step) -> TableError
     ensures { OrMemory TableError.OutOfMemory result (result ≡ error_under step error) }
 {
     let TableError::Fault(mut fault) = error else {
@@ -58,8 +58,8 @@ fn behind(error: TableError, step: Step) -> TableError
 }
 
 /// What the check of a list fails with where that of the element at this index fails so.
-pub fn behind_index(index: usize, error: TableError) -> TableError
+pub fn after_index(index: usize, error: TableError) -> TableError
     ensures { OrMemory TableError.OutOfMemory result (result ≡ error_under (Index index) error) }
 {
-    behind(error, Step::Index(index))
+    after(error, Step::Index(index))
 }

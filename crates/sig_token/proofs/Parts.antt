@@ -99,11 +99,11 @@ fourth : (header payload third : List ℕ) (others : List (List ℕ)) → 0 < le
 fourth header payload third [] some = absurd (omega (arith, some))
 fourth header payload third (other ∷ others) some = refl
 
-pub too_many : (text header behind payload rest third last : List ℕ)
-    → slice_split is_point text ≡ header ∷ slice_split is_point behind
-    → slice_split is_point behind ≡ payload ∷ slice_split is_point rest
+pub too_many : (text header after payload rest third last : List ℕ)
+    → slice_split is_point text ≡ header ∷ slice_split is_point after
+    → slice_split is_point after ≡ payload ∷ slice_split is_point rest
     → slice_split is_point rest ≡ third ∷ slice_split is_point last → payload_of text ≡ None
 unfolding payload_of
-too_many text header behind payload rest third last one two three =
+too_many text header after payload rest third last one two three =
     let some : 0 < length (slice_split is_point last) = omega (arith, length-slice_split is_point last) in
     rw (one, two, three) (fourth header payload third (slice_split is_point last) some)

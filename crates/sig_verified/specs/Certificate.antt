@@ -50,14 +50,14 @@ names_tree names = list_tree name_tree (take most_names names)
 -- ---- the serial number
 
 -- what follows the version, if there is one
-abbrev pub behind_version : List ℕ → Option (Piece × List ℕ) → List ℕ
-behind_version front None = front
-behind_version front (Some version) = version.1
+abbrev pub after_version : List ℕ → Option (Piece × List ℕ) → List ℕ
+after_version front None = front
+after_version front (Some version) = version.1
 
 -- the content of the integer after it
 unfoldable pub serial_in : List ℕ → Option (List ℕ)
 serial_in front =
-    take_tag INTEGER (behind_version front (take_tag VERSION front)) >>= λ serial. Some serial.0.content
+    take_tag INTEGER (after_version front (take_tag VERSION front)) >>= λ serial. Some serial.0.content
 
 -- ---- the whole
 

@@ -14,7 +14,7 @@ ghost use Rattle.sig_json.specs.Data.{put, string};
 ghost use Rattle.sig_json.specs.Tree.{document_tree};
 ghost use Rattle.sig_policy.specs.Single.{extension_text};
 ghost use Rattle.sig_policy.specs.Texts.{utf8_text};
-ghost use Rattle.sig_verified.specs.Certificate.{behind_version, certificate_rows, certificate_tree, names_of};
+ghost use Rattle.sig_verified.specs.Certificate.{after_version, certificate_rows, certificate_tree, names_of};
 ghost use Rattle.sig_verified.specs.Certificate.{names_tree, said_rows, serial_in};
 ghost use Rattle.sig_shown.specs.ShownValues.{some_rows};
 
@@ -93,13 +93,13 @@ fn with_serial(
 fn serial_in(front: &[u8]) -> Option<&[u8]>
     ensures { option_map (λ s. s.now) result ≡ serial_in front.now }
 {
-    let (serial, _) = take_tag(behind_version(front), tag::INTEGER)?;
+    let (serial, _) = take_tag(after_version(front), tag::INTEGER)?;
     Some(serial.content)
 }
 
 /// What follows the version of a TBSCertificate, if there is one, of its elements before the extensions.
-fn behind_version(front: &[u8]) -> &[u8]
-    ensures { result.now ≡ behind_version front.now (take_tag VERSION front.now) }
+fn after_version(front: &[u8]) -> &[u8]
+    ensures { result.now ≡ after_version front.now (take_tag VERSION front.now) }
 {
     match take_tag(front, tag::VERSION) {
         Some((_, rest)) => rest,

@@ -177,40 +177,40 @@ module _ (b : Bundle) where
 
   -- ---- the first that fails
 
-  behind_certificate : HasCertificates b → (links : List Link) (link : Link) → FailsFirst Holds links link
+  after_certificate : HasCertificates b → (links : List Link) (link : Link) → FailsFirst Holds links link
       → FailsFirst Holds (Material ∷ Certificate ∷ links) link
-  behind_certificate h links link fails =
+  after_certificate h links link fails =
       inr (material_holds h.before.before, inr (certificates_hold h (λ c further. AreFew further) (few_of h), fails))
 
-  behind_leaf : HasLeaf b → (links : List Link) (link : Link) → FailsFirst Holds links link
+  after_leaf : HasLeaf b → (links : List Link) (link : Link) → FailsFirst Holds links link
       → FailsFirst Holds (Material ∷ Certificate ∷ Leaf ∷ links) link
-  behind_leaf h links link fails =
-      behind_certificate h.before (Leaf ∷ links) link
+  after_leaf h links link fails =
+      after_certificate h.before (Leaf ∷ links) link
       (inr (certificates_hold h.before (λ c further. leaf_refusal c ≡ None) h.may_sign, fails))
 
-  behind_chain : HasNoRoot b → (links : List Link) (link : Link) → FailsFirst Holds links link
+  after_chain : HasNoRoot b → (links : List Link) (link : Link) → FailsFirst Holds links link
       → FailsFirst Holds (Material ∷ Certificate ∷ Leaf ∷ RootInChain ∷ links) link
-  behind_chain h links link fails =
-      behind_leaf h.before (RootInChain ∷ links) link
+  after_chain h links link fails =
+      after_leaf h.before (RootInChain ∷ links) link
       (inr (certificates_hold h.before.before (λ c further. AllByRecursion IsNoRoot further) h.rootless, fails))
 
-  behind_content : HasContent b → (links : List Link) (link : Link) → FailsFirst Holds links link
+  after_content : HasContent b → (links : List Link) (link : Link) → FailsFirst Holds links link
       → FailsFirst Holds (Material ∷ Certificate ∷ Leaf ∷ RootInChain ∷ ContentLink ∷ Envelope ∷ links) link
-  behind_content h links link fails =
+  after_content h links link fails =
       let read = content_read h.signature h.kept h.read in
-      behind_chain h.before (ContentLink ∷ Envelope ∷ links) link (inr (content_there read, inr (read, fails)))
+      after_chain h.before (ContentLink ∷ Envelope ∷ links) link (inr (content_there read, inr (read, fails)))
 
   first_certificate : HasEncodings b → ¬ Holds Certificate → FailsFirst Holds bundle_links Certificate
   first_certificate h fails = inr (material_holds h, inl (fails, refl))
 
   first_envelope : HasEnvelope b → ¬ Holds Envelope → FailsFirst Holds bundle_links Envelope
   first_envelope h fails =
-      behind_chain h.before (ContentLink ∷ Envelope ∷ Entry ∷ Profile ∷ []) Envelope
+      after_chain h.before (ContentLink ∷ Envelope ∷ Entry ∷ Profile ∷ []) Envelope
       (inr ((Enveloped h.envelope, h.held, tt), inl (fails, refl)))
 
   first_profile : HasEntry b → ¬ Holds Profile → FailsFirst Holds bundle_links Profile
   first_profile h fails =
-      behind_content h.before (Entry ∷ Profile ∷ []) Profile (inr (entry_holds h, inl (fails, refl)))
+      after_content h.before (Entry ∷ Profile ∷ []) Profile (inr (entry_holds h, inl (fails, refl)))
 
   -- ---- what does not hold
 
@@ -298,7 +298,7 @@ module _ (b : Bundle) where
   told one (refusal.NoLeaf e) cause = (
     Leaf,
     refl,
-    behind_certificate cause.0 (Leaf ∷ RootInChain ∷ ContentLink ∷ Envelope ∷ Entry ∷ Profile ∷ []) Leaf (inl (
+    after_certificate cause.0 (Leaf ∷ RootInChain ∷ ContentLink ∷ Envelope ∷ Entry ∷ Profile ∷ []) Leaf (inl (
       (λ holds.
           let may : leaf_refusal cause.0.certificate ≡ None =
           at_certificates one cause.0 (λ c further. leaf_refusal c ≡ None) holds in
@@ -309,7 +309,7 @@ module _ (b : Bundle) where
   told one refusal.RootInChain cause = (
     RootInChain,
     refl,
-    behind_leaf cause.0 (RootInChain ∷ ContentLink ∷ Envelope ∷ Entry ∷ Profile ∷ []) RootInChain (inl (
+    after_leaf cause.0 (RootInChain ∷ ContentLink ∷ Envelope ∷ Entry ∷ Profile ∷ []) RootInChain (inl (
       (λ holds. rootless-none cause.0.before.further
           (at_certificates one cause.0.before (λ c further. AllByRecursion IsNoRoot further) holds) cause.1),
       refl,
@@ -318,7 +318,7 @@ module _ (b : Bundle) where
   told one refusal.SignatureMissing cause = (
     ContentLink,
     refl,
-    behind_chain cause.0 (ContentLink ∷ Envelope ∷ Entry ∷ Profile ∷ []) ContentLink (inl (
+    after_chain cause.0 (ContentLink ∷ Envelope ∷ Entry ∷ Profile ∷ []) ContentLink (inl (
       (λ holds. let wrong : ◌≡◌ {A = Option Content} (Some holds.0) None = sym holds.1 ∙ cause.1 in absurd cc),
       refl,
     )),
@@ -348,7 +348,7 @@ module _ (b : Bundle) where
   told one (refusal.TlogEntry count) cause = (
     Entry,
     refl,
-    behind_content cause.0 (Entry ∷ Profile ∷ []) Entry (inl (
+    after_content cause.0 (Entry ∷ Profile ∷ []) Entry (inl (
       (λ holds.
           let there = at_material (material_at cause.0)
           (λ m. (e : TransparencyLogEntry) × (m.tlog_entries ≡ e ∷ []) × Unit {0}) holds in

@@ -5,7 +5,7 @@ use Rattle.sig_dsse.specs.declared.artifact_digest.ArtifactDigest.{ArtifactDiges
 use Rattle.sig_policy.specs.Refusals.{Refusal}
 use Rattle.sig_verify.proofs.ContentVerdicts.{judged_content, judged_time}
 use Rattle.sig_verify.proofs.IssuerVerdicts.{judged_issued}
-use Rattle.sig_verify.proofs.JudgedLaws.{behind, fails_front, judged_tells, not_first}
+use Rattle.sig_verify.proofs.JudgedLaws.{fails_front, judged_later, judged_tells, not_first}
 use Rattle.sig_verify.specs.CertificateLinks.{HoldsOfChecked, certificate_links}
 use Rattle.sig_verify.specs.ContentCheck.{content_answer, time_answer}
 use Rattle.sig_verify.specs.IssuerCheck.{issued_answer}
@@ -29,7 +29,7 @@ module _ (k : Checker) (policy : PolicyOf) (trusted : Trusted) (d : ArtifactDige
   after : (xs ys : List Link) (step result : Answer) (Next : Answer → Type 0) → Judged Holds xs (renamed step)
       → (Next result → Judged Holds ys (renamed result)) → After step Next result
       → Judged Holds (xs ++ ys) (renamed result)
-  after xs ys (Ok done) result Next judged next is = behind Holds xs ys (renamed result) judged (next is)
+  after xs ys (Ok done) result Next judged next is = judged_later Holds xs ys (renamed result) judged (next is)
   after xs ys (Err e) result Next judged next is =
       subst (λ (r : Answer). Judged Holds (xs ++ ys) (renamed r)) (sym is)
       (judged.0, judged.1, fails_front Holds xs ys judged.0 judged.2)
@@ -38,7 +38,7 @@ module _ (k : Checker) (policy : PolicyOf) (trusted : Trusted) (d : ArtifactDige
       (renamed result)
   judged_logged result (inl both) =
       subst (λ (r : Answer). Judged Holds (Body ∷ Time ∷ []) (renamed r)) (sym both.1)
-      (behind Holds (Body ∷ []) (Time ∷ []) (renamed (time_answer c)) (both.0, tt)
+      (judged_later Holds (Body ∷ []) (Time ∷ []) (renamed (time_answer c)) (both.0, tt)
       (judged_time k policy (trust_of trusted) d offline c))
   judged_logged result (inr both) =
       subst (λ (r : Answer). Judged Holds (Body ∷ Time ∷ []) (renamed r)) (sym both.1)
@@ -55,7 +55,7 @@ module _ (k : Checker) (policy : PolicyOf) (trusted : Trusted) (d : ArtifactDige
       → AfterPolicy b refusal (IsVerdictFromKey k d offline c) result
       → Judged Holds (Policy ∷ Key ∷ Signature ∷ Subject ∷ Body ∷ Time ∷ []) (renamed result)
   by_policy true refusal result holds is =
-      behind Holds (Policy ∷ []) (Key ∷ Signature ∷ Subject ∷ Body ∷ Time ∷ []) (renamed result) (holds, tt)
+      judged_later Holds (Policy ∷ []) (Key ∷ Signature ∷ Subject ∷ Body ∷ Time ∷ []) (renamed result) (holds, tt)
       (judged_signed result is)
   by_policy false refusal result holds is =
       subst (λ (r : Answer). Judged Holds (Policy ∷ Key ∷ Signature ∷ Subject ∷ Body ∷ Time ∷ []) (renamed r))

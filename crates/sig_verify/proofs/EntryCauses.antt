@@ -279,11 +279,11 @@ module _ (laws : ProofLaws) (spki : AcceptsSpki) (keys : LogKeys) (e : Transpare
     vouched_caused why told =
         elim (bind_err (promise_answer (spki key.0 key.1) e) _ why told) [
           | inl refused ↦ promise_caused e.inclusion_promise refl why refused (promise_said.refused why refused)
-          | inr some ↦ behind (promise_said.passed some.0 some.1) some.2
+          | inr some ↦ after (promise_said.passed some.0 some.1) some.2
         ] where
-          behind : Holds → (fields_answer e.inclusion_proof >>= λ proof. included (spki key.0 key.1) e proof) ≡ Err why
+          after : Holds → (fields_answer e.inclusion_proof >>= λ proof. included (spki key.0 key.1) e proof) ≡ Err why
               → Is why
-          behind holds rest =
+          after holds rest =
               let before : IsPromisedEntry spki keys e =
               record { key = (key, has, tt); canonical = holds.0; signed = holds.1 } in
               elim (bind_err (fields_answer e.inclusion_proof) _ why rest) [

@@ -266,9 +266,9 @@ module _ (k : Checker) (policy : PolicyOf) (trusted : Trusted) (d : ArtifactDige
       key_found : spki_or_none (spki_of over issuer) ≡ Ok spki
       key_found = ap (λ (o : Option Cert). spki_or_none (option_map (λ (x : Cert). x.spki) o)) first.path.there
 
-      judged_behind : Judged Holds (Issuance ∷ Issuer ∷ Sct ∷ [])
+      judged_after : Judged Holds (Issuance ∷ Issuer ∷ Sct ∷ [])
           (renamed (spki_or_none (spki_of over issuer) >>= λ key. from_sct (sct_answer k.point trusted.ring c key)))
-      judged_behind =
+      judged_after =
           subst (λ (r : Result (List ℕ) VerificationError). Judged Holds (Issuance ∷ Issuer ∷ Sct ∷ [])
           (renamed (r >>= λ key. from_sct (sct_answer k.point trusted.ring c key)))) (sym key_found)
           (judged_sct (sct_answer k.point trusted.ring c spki) (says_sct (sct_of c) refl said))
@@ -291,7 +291,7 @@ module _ (k : Checker) (policy : PolicyOf) (trusted : Trusted) (d : ArtifactDige
       >>= λ key. from_sct (sct_answer k.point trusted.ring c key)))
   by_pool (Ok issuer) is =
       let both = issued_is_first k.cert over c c.not_before issuer is in
-      judged_behind issuer both.0 both.1
+      judged_after issuer both.0 both.1
   by_pool (Err pool.Malformed) is =
       not_first Holds Issuance (Issuer ∷ Sct ∷ []) (error.Certificate certificate.Malformed)
       (malformed_has_none k.cert over c c.not_before is) refl

@@ -15,8 +15,8 @@ use Rattle.sig_verify.specs.declared.offline_error.OfflineError.{OfflineError}
 
 pub all_joined : (Holds : Link → Type 0) (xs ys : List Link) → AllByRecursion Holds xs → AllByRecursion Holds ys
     → AllByRecursion Holds (xs ++ ys)
-all_joined Holds [] ys front behind = behind
-all_joined Holds (x ∷ xs) ys front behind = (front.0, all_joined Holds xs ys front.1 behind)
+all_joined Holds [] ys front after = after
+all_joined Holds (x ∷ xs) ys front after = (front.0, all_joined Holds xs ys front.1 after)
 
 pub fails_front : (Holds : Link → Type 0) (xs ys : List Link) (link : Link) → FailsFirst Holds xs link
     → FailsFirst Holds (xs ++ ys) link
@@ -24,22 +24,22 @@ fails_front Holds [] ys link fails = absurd fails
 fails_front Holds (x ∷ xs) ys link (inl fails) = inl fails
 fails_front Holds (x ∷ xs) ys link (inr later) = inr (later.0, fails_front Holds xs ys link later.1)
 
-pub fails_behind : (Holds : Link → Type 0) (xs ys : List Link) (link : Link) → AllByRecursion Holds xs
+pub fails_after : (Holds : Link → Type 0) (xs ys : List Link) (link : Link) → AllByRecursion Holds xs
     → FailsFirst Holds ys link → FailsFirst Holds (xs ++ ys) link
-fails_behind Holds [] ys link front fails = fails
-fails_behind Holds (x ∷ xs) ys link front fails = inr (front.0, fails_behind Holds xs ys link front.1 fails)
+fails_after Holds [] ys link front fails = fails
+fails_after Holds (x ∷ xs) ys link front fails = inr (front.0, fails_after Holds xs ys link front.1 fails)
 
-pub behind : {A : Type 0} (Holds : Link → Type 0) (xs ys : List Link) (r : Result A OfflineError)
+pub judged_later : {A : Type 0} (Holds : Link → Type 0) (xs ys : List Link) (r : Result A OfflineError)
     → AllByRecursion Holds xs
     → Judged Holds ys r → Judged Holds (xs ++ ys) r
-behind Holds xs ys (Ok x) front judged = all_joined Holds xs ys front judged
-behind Holds xs ys (Err error) front judged = (judged.0, judged.1, fails_behind Holds xs ys judged.0 front judged.2)
+judged_later Holds xs ys (Ok x) front judged = all_joined Holds xs ys front judged
+judged_later Holds xs ys (Err error) front judged = (judged.0, judged.1, fails_after Holds xs ys judged.0 front judged.2)
 
 -- one step after another
 pub judged_bind : {A B : Type 0} (Holds : Link → Type 0) (xs ys : List Link) (r : Result A OfflineError)
     (f : A → Result B OfflineError) → Judged Holds xs r → ((x : A) → r ≡ Ok x → Judged Holds ys (f x))
     → Judged Holds (xs ++ ys) (r >>= f)
-judged_bind Holds xs ys (Ok x) f judged next = behind Holds xs ys (f x) judged (next x refl)
+judged_bind Holds xs ys (Ok x) f judged next = judged_later Holds xs ys (f x) judged (next x refl)
 judged_bind Holds xs ys (Err error) f judged next =
     (judged.0, judged.1, fails_front Holds xs ys judged.0 judged.2)
 
@@ -89,7 +89,7 @@ judged_as P Q links (Err e) alike judged =
     (judged.0, judged.1, fails_as P Q links judged.0 alike judged.2)
 
 pub alike_joined : (P Q : Link → Type 0) (xs ys : List Link) → Alike P Q xs → Alike P Q ys → Alike P Q (xs ++ ys)
-alike_joined P Q xs ys front behind = all_joined (λ l. P l ↔ Q l) xs ys front behind
+alike_joined P Q xs ys front after = all_joined (λ l. P l ↔ Q l) xs ys front after
 
 pub both_alike : {A B C D : Type 0} → (A ↔ B) → (C ↔ D) → (A × C) ↔ (B × D)
 both_alike ab cd = ((λ x. (ab.0 x.0, cd.0 x.1)), (λ y. (ab.1 y.0, cd.1 y.1)))

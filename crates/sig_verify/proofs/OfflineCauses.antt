@@ -130,12 +130,12 @@ module _ (laws : Groups) (refusals : RefusalsHaveTheirCause) (o : Outside) (i : 
     content x told =
         elim (bind_err (certificate_key_answer c.certificate.spki) _ x told) [
           | inl none ↦ supported (kind_answer c.certificate.spki (key_kind c.certificate.spki)) x none
-          | inr key ↦ behind key.0 key.2
+          | inr key ↦ after key.0 key.2
         ] where
-          behind : (key : VerifyScheme × List ℕ)
+          after : (key : VerifyScheme × List ℕ)
               → (signature_answer (o.checker.spki key.0 key.1) (o.checker.prehash key.0 key.1) i.digest c.content
               c.signature >>= λ done. if_about (is_about c.content i.digest)) ≡ Err x → Is (of_verification x)
-          behind key rest =
+          after key rest =
               elim (bind_err (signature_answer (o.checker.spki key.0 key.1) (o.checker.prehash key.0 key.1) i.digest
               c.content c.signature) _ x rest) [
                 | inl unsigned ↦

@@ -17,7 +17,7 @@ use Rattle.sig_root.specs.RootRecord.{trusted_root_in}
 use Rattle.sig_root.specs.declared.record.TrustedRoot.{TrustedRoot}
 use Rattle.sig_verify.proofs.EntryLaws.{entry_kept, judged_entry}
 use Rattle.sig_verify.proofs.EntryProofs.{ProofLaws}
-use Rattle.sig_verify.proofs.JudgedLaws.{all_as, behind, fails_as, fails_front, judged_as, judged_tells}
+use Rattle.sig_verify.proofs.JudgedLaws.{all_as, fails_as, fails_front, judged_as, judged_later, judged_tells}
 use Rattle.sig_verify.proofs.LinkGroups.{entries_alike, roots_alike, verified_alike}
 use Rattle.sig_verify.proofs.RootVerdicts.{memory_or_other}
 use Rattle.sig_verify.proofs.VerifiedBundles.{judged_verdict}
@@ -50,8 +50,8 @@ pub record Groups : Type 0 where
   pub roots : RootsAreJudged
   pub proofs : ProofLaws
 
-abbrev behind_json : List Link
-behind_json = root_links ++ ((bundle_links ++ certificate_links) ++ entry_links)
+abbrev after_json : List Link
+after_json = root_links ++ ((bundle_links ++ certificate_links) ++ entry_links)
 
 -- the only entry is that of the checked bundle
 pub one_entry : (b : BundleType) (c : Checked) (e : TransparencyLogEntry) → IsPassed b c → only_entry_of b ≡ Some e
@@ -77,7 +77,7 @@ module _ (laws : Groups) (o : Outside) (i : Inputs) (read : AreReadInputs i) (re
 
   after : (front rest : List Link) → AllByRecursion Holds front → Rest rest → Rest (front ++ rest)
   after front rest hold told =
-      record { judged = behind Holds front rest result hold told.judged; kept = told.kept }
+      record { judged = judged_later Holds front rest result hold told.judged; kept = told.kept }
 
   module _ (root : TrustedRoot) (root_is : trusted_root_in i.root ≡ Ok root) (b : BundleType)
       (bundle_is : bundle_in i.bundle ≡ Ok b) where
@@ -124,17 +124,17 @@ module _ (laws : Groups) (o : Outside) (i : Inputs) (read : AreReadInputs i) (re
           (vouched checked.0 ((laws.passed b checked.0).0 checked.1) next)
 
     rooted : IsOfflineOf o.checker o.policy root i.now i.digest b result
-        → (result ≡ Err OutOfMemory) ⊎ Rest behind_json
+        → (result ≡ Err OutOfMemory) ⊎ Rest after_json
     rooted (inl (error, why, is)) = by_memory (memory_or_other root i.now error why)
       where
         by_memory : (error ≡ sigstore.OutOfMemory) ⊎ (error ≢ sigstore.OutOfMemory)
-            → (result ≡ Err OutOfMemory) ⊎ Rest behind_json
+            → (result ≡ Err OutOfMemory) ⊎ Rest after_json
         by_memory (inl memory) = inl (is ∙ ap (λ (e : SigstoreError). Err (of_root e)) memory)
         by_memory (inr other) =
             let first = laws.roots.refused root i.now error why other in
             let fails = fails_as (HoldsOfRoot root i.now) Holds root_links first.0
             (roots_alike o i root root_is) first.2 in
-            inr (refused behind_json (of_root error) is (
+            inr (refused after_json (of_root error) is (
               first.0,
               first.1,
               fails_front Holds root_links ((bundle_links ++ certificate_links) ++ entry_links) first.0 fails,
@@ -156,18 +156,18 @@ module _ (laws : Groups) (o : Outside) (i : Inputs) (read : AreReadInputs i) (re
   abbrev Found : List Link → Type 0
   Found rest = (result ≡ Err OutOfMemory) ⊎ Rest rest
 
-  behind_one : (link : Link) (rest : List Link) → Holds link → Found rest → Found (link ∷ rest)
-  behind_one link rest holds (inl memory) = inl memory
-  behind_one link rest holds (inr told) = inr (after (link ∷ []) rest (holds, tt) told)
+  after_one : (link : Link) (rest : List Link) → Holds link → Found rest → Found (link ∷ rest)
+  after_one link rest holds (inl memory) = inl memory
+  after_one link rest holds (inr told) = inr (after (link ∷ []) rest (holds, tt) told)
 
   bundled : (root : TrustedRoot) → trusted_root_in i.root ≡ Ok root → (found : Result BundleType JsonError)
       → bundle_in i.bundle ≡ found
       → AfterRead Bundle found (IsOfflineOf o.checker o.policy root i.now i.digest) result
-      → Found (BundleJson ∷ behind_json)
+      → Found (BundleJson ∷ after_json)
   bundled root root_is (Err why) is next =
-      inr (refused (BundleJson ∷ behind_json) (Json Bundle why) next (BundleJson, refl, inl (no_bundle why is, refl)))
+      inr (refused (BundleJson ∷ after_json) (Json Bundle why) next (BundleJson, refl, inl (no_bundle why is, refl)))
   bundled root root_is (Ok b) is next =
-      behind_one BundleJson behind_json (b, is, tt) (rooted root root_is b is next)
+      after_one BundleJson after_json (b, is, tt) (rooted root root_is b is next)
 
   read_root : (found : Result TrustedRoot JsonError) → trusted_root_in i.root ≡ found
       → AfterRead Root found (λ root. IsOfflineIn o.checker o.policy root i.now i.digest i.bundle) result
@@ -175,7 +175,7 @@ module _ (laws : Groups) (o : Outside) (i : Inputs) (read : AreReadInputs i) (re
   read_root (Err why) is next =
       inr (refused chain_links (Json Root why) next (RootJson, refl, inl (no_root why is, refl)))
   read_root (Ok root) is next =
-      behind_one RootJson (BundleJson ∷ behind_json) (root, is, tt)
+      after_one RootJson (BundleJson ∷ after_json) (root, is, tt)
       (bundled root is (bundle_in i.bundle) refl next)
 
   told : Found chain_links → (result ≡ Err OutOfMemory) ⊎ IsOutcomeOf o i result

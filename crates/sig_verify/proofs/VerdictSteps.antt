@@ -84,14 +84,14 @@ not_passed k trusted policy d offline b kind (inr is) = elim (named kind) [
 
 -- ---- a bundle that does
 
-pub behind_checks : (k : Checker) (trusted : Trusted) (policy : PolicyOf) (d : ArtifactDigest) (offline : Bool)
+pub after_checks : (k : Checker) (trusted : Trusted) (policy : PolicyOf) (d : ArtifactDigest) (offline : Bool)
     (b : Bundle) (c : Checked) → (let r : Result Checked BundleErrorKind = Ok c in
     UnlessMemory bundle.OutOfMemory r (IsChecked b r)) → (result : Answer)
     → Unless result (IsVerdictFromIssuance k trusted policy d offline c result)
     → Unless result (IsVerdict k trusted policy d offline b result)
-behind_checks k trusted policy d offline b c passed result (inl memory) = inl memory
-behind_checks k trusted policy d offline b c (inl wrong) result (inr is) = absurd cc
-behind_checks k trusted policy d offline b c (inr checked) result (inr is) = inr (inr (c, checked, is))
+after_checks k trusted policy d offline b c passed result (inl memory) = inl memory
+after_checks k trusted policy d offline b c (inl wrong) result (inr is) = absurd cc
+after_checks k trusted policy d offline b c (inr checked) result (inr is) = inr (inr (c, checked, is))
 
 -- ---- the steps after them, in order
 

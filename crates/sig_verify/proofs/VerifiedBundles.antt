@@ -19,7 +19,7 @@ use Rattle.sig_certificate.specs.Certificates.{AreCertificates}
 use Rattle.sig_dsse.specs.declared.artifact_digest.ArtifactDigest.{ArtifactDigest}
 use Rattle.sig_rekor.proofs.Steps.{head_is}
 use Rattle.sig_verify.proofs.CheckedBundles.{judged_trusted}
-use Rattle.sig_verify.proofs.JudgedLaws.{alike_each, behind, fails_front, judged_as, judged_tells}
+use Rattle.sig_verify.proofs.JudgedLaws.{alike_each, fails_front, judged_as, judged_later, judged_tells}
 use Rattle.sig_verify.specs.BundleLinks.{bundle_links}
 use Rattle.sig_verify.specs.CertificateLinks.{HoldsOfChecked, certificate_links}
 use Rattle.sig_verify.specs.Judged.{Judged, Tells}
@@ -98,7 +98,7 @@ module _ (one : OneCertificate) (passed : (b : Bundle) (c : Checked)
   judged_verdict result (inr checked) =
       let c = checked.0 in
       let is : IsPassed b c = (passed b c).0 checked.1 in
-      behind Holds bundle_links certificate_links (renamed result) (bundles.passed b c checked.1)
+      judged_later Holds bundle_links certificate_links (renamed result) (bundles.passed b c checked.1)
       (judged_as (HoldsOfChecked k policy (trust_of trusted) d offline c)
       (OfPassedBundle k policy (trust_of trusted) d offline b) certificate_links (renamed result)
       (alike_each (HoldsOfChecked k policy (trust_of trusted) d offline c)

@@ -34,9 +34,9 @@ if-false false x y is = refl
 pub there-same : (rows : List AcceptedRow) (row : AcceptedRow) → Contains rows row → with_row rows row ≡ rows
 there-same rows row there = if-true (has_row rows row) rows (rows ++ row ∷ []) (among-true rows row there)
 
-pub absent-behind : (rows : List AcceptedRow) (row : AcceptedRow) → ¬ Contains rows row
+pub absent-after : (rows : List AcceptedRow) (row : AcceptedRow) → ¬ Contains rows row
     → with_row rows row ≡ rows ++ row ∷ []
-absent-behind rows row absent =
+absent-after rows row absent =
     if-false (has_row rows row) rows (rows ++ row ∷ [])
     (not-true (has_row rows row) (λ is. absent (among rows row is)))
 
@@ -122,7 +122,7 @@ once-has before (row ∷ rest) one there = elim (first-or-later row one rest the
   | inl same ↦
       once-keeps (with_row before row) rest one
       (subst (Contains (with_row before row)) same (new-with before row))
-  | inr behind ↦ once-has (with_row before row) rest one behind
+  | inr after ↦ once-has (with_row before row) rest one after
 ]
 
 pub once-only : (before rows : List AcceptedRow) (one : AcceptedRow) → Contains (each_once_after before rows) one
@@ -133,27 +133,27 @@ once-only before (row ∷ rest) one there = elim (once-only (with_row before row
     | inl old ↦ inl old
     | inr same ↦ inr (subst (Contains (row ∷ rest)) same (here row rest))
   ]
-  | inr behind ↦ inr (later row one rest behind)
+  | inr after ↦ inr (later row one rest after)
 ]
 
 -- ---- none is there twice
 
-different-behind : (rows : List AcceptedRow) (row : AcceptedRow) → AreDifferent rows → ¬ Contains rows row
+different-after : (rows : List AcceptedRow) (row : AcceptedRow) → AreDifferent rows → ¬ Contains rows row
     → AreDifferent (rows ++ row ∷ [])
-different-behind [] row all absent = (λ there. omega (arith, there.1), tt)
-different-behind (one ∷ rest) row all absent = (
+different-after [] row all absent = (λ there. omega (arith, there.1), tt)
+different-after (one ∷ rest) row all absent = (
   λ there. elim (Contains-push_cases rest row one there) [
     | inl inside ↦ absurd (all.0 inside)
     | inr same ↦ absurd (absent (subst (Contains (one ∷ rest)) (sym same) (here one rest)))
   ],
-  different-behind rest row all.1 (λ there. absent (later one row rest there)),
+  different-after rest row all.1 (λ there. absent (later one row rest there)),
 )
 
 pub once-different : (before rows : List AcceptedRow) → AreDifferent before → AreDifferent (each_once_after before rows)
 once-different before [] all = all
 once-different before (row ∷ rest) all = once-different (with_row before row) rest (elim (one-row before row) [
   | inl (_, same) ↦ subst AreDifferent (sym same) all
-  | inr (absent, same) ↦ subst AreDifferent (sym same) (different-behind before row all absent)
+  | inr (absent, same) ↦ subst AreDifferent (sym same) (different-after before row all absent)
 ])
 
 pub rows_each_once : WitnessRowsAreEachOnce

@@ -261,9 +261,9 @@ module _ (logs : Logs) (most : ℕ) (texts : List UpdateText) (place : ℕ) (tex
       let front : AreUpdates (take (place + 1) texts) (so_far.updates ++ update ∷ []) = rw more first in
       let whole = updates-parts (take (place + 1) texts) (drop (place + 1) texts) (so_far.updates ++ update ∷ []) rest
       front are in
-      let (behind, begins) = once-begins (witness_rows logs (so_far.updates ++ update ∷ [])) (update_rows logs rest) in
+      let (after, begins) = once-begins (witness_rows logs (so_far.updates ++ update ∷ [])) (update_rows logs rest) in
       let shown : witness_rows logs ((so_far.updates ++ update ∷ []) ++ rest)
-      ≡ witness_rows logs (so_far.updates ++ update ∷ []) ++ behind =
+      ≡ witness_rows logs (so_far.updates ++ update ∷ []) ++ after =
       witness-parts logs (so_far.updates ++ update ∷ []) rest ∙ begins in
       let here : new.most < length (rows_text (witness_rows logs (so_far.updates ++ update ∷ []))) =
       subst (λ (all : List AcceptedRow). new.most < length (rows_text all))
@@ -274,7 +274,7 @@ module _ (logs : Logs) (most : ℕ) (texts : List UpdateText) (place : ℕ) (tex
         subst (λ (ts : List UpdateText). AreUpdates ts ((so_far.updates ++ update ∷ []) ++ rest))
             (take-append-drop (place + 1) texts) whole,
         subst (λ (all : List AcceptedRow). most < length (rows_text all)) (sym shown)
-            (longer most (witness_rows logs (so_far.updates ++ update ∷ [])) behind past),
+            (longer most (witness_rows logs (so_far.updates ++ update ∷ [])) after past),
       )
 
 pub notes-none : (logs : Logs) (most : ℕ) (texts : List UpdateText) (rows : RowList) → rows.most ≡ most

@@ -20,7 +20,7 @@ use Rattle.sig_witness.proofs.Entries.{found-all, none-there}
 use Rattle.sig_witness.specs.KeptLogs.{IsOriginText, log_key}
 use Rattle.sig_witness.specs.declared.kept_log.KeptLog.{KeptLog}
 use Rattle.sig_witness_command.proofs.Lookups.{put-cases, put-found, split-same}
-use Rattle.sig_witness_command.proofs.DistinctRows.{absent-behind, once-begins, there-same}
+use Rattle.sig_witness_command.proofs.DistinctRows.{absent-after, once-begins, there-same}
 use Rattle.sig_witness_command.specs.Questions.{each_once_after, key_row, with_row}
 use Rattle.sig_witness_command.specs.RowList.{HasRoom, IsCoded, IsEmptyList, IsListSoFar, IsMarked, IsNewRow, IsNumbered, IsPut, IsSameList, pair_of}
 use Rattle.sig_witness_command.specs.Start.{HaveLines, Logs}
@@ -379,15 +379,15 @@ module _ (logs : Logs) (bound : ℕ) (before : List AcceptedRow) (key : CosignVe
       (sym (there-same before row (listed-already some))) so_far)
   put-more (inr is) =
       subst (λ (all : List AcceptedRow). IsListSoFar logs bound all new)
-      (sym (absent-behind before row (not-listed is.unlisted))) (put-new is)
+      (sym (absent-after before row (not-listed is.unlisted))) (put-new is)
 
   pub put-past : (rest : List AcceptedRow) → IsPut row number signature old new false
       → new.most < length (rows_text (each_once_after before (row ∷ rest)))
   put-past rest is =
       let begins = once-begins (with_row before row) rest in
-      let behind = absent-behind before row (not-listed is.unlisted) in
+      let after = absent-after before row (not-listed is.unlisted) in
       let whole : each_once_after before (row ∷ rest) ≡ before ++ row ∷ begins.0 =
-      begins.1 ∙ ap (λ front. front ++ begins.0) behind ∙ append_assoc before (row ∷ []) begins.0 in
+      begins.1 ∙ ap (λ front. front ++ begins.0) after ∙ append_assoc before (row ∷ []) begins.0 in
       let long = list_of-past old.most before row begins.0 (document_tree old.list) (document_tree new.list) old.size
       so_far.listed is.past in
       let most : old.most < length (rows_text (each_once_after before (row ∷ rest))) =

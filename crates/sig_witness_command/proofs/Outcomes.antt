@@ -4,11 +4,11 @@ use Rattle.std.proofs.lemmas.List.{append-nil, append_assoc, take_all, take_more
 use Rattle.sig_witness_command.specs.Outcome.{outcome_line, outcome_lines}
 use Rattle.sig_witness_command.specs.declared.outcome.Outcome.{Outcome}
 
-lines-behind : (outcomes : List Outcome) (outcome : Outcome)
+lines-after : (outcomes : List Outcome) (outcome : Outcome)
     → outcome_lines (outcomes ++ outcome ∷ []) ≡ outcome_lines outcomes ++ outcome_line outcome
-lines-behind [] outcome = append-nil (outcome_line outcome)
-lines-behind (first ∷ later) outcome =
-    ap (λ rest. outcome_line first ++ rest) (lines-behind later outcome)
+lines-after [] outcome = append-nil (outcome_line outcome)
+lines-after (first ∷ later) outcome =
+    ap (λ rest. outcome_line first ++ rest) (lines-after later outcome)
     ∙ sym (append_assoc (outcome_line first) (outcome_lines later) (outcome_line outcome))
 
 pub lines-none : (outcomes : List Outcome) → [] ≡ outcome_lines (take 0 outcomes)
@@ -19,7 +19,7 @@ pub lines-more : (outcomes : List Outcome) (place : ℕ) (default : Outcome) (ol
     → new ≡ outcome_lines (take (place + 1) outcomes)
 lines-more outcomes place default old new below so_far pushed =
     pushed ∙ ap (λ text. text ++ outcome_line (get_or outcomes place default)) so_far
-    ∙ sym (lines-behind (take place outcomes) (get_or outcomes place default))
+    ∙ sym (lines-after (take place outcomes) (get_or outcomes place default))
     ∙ sym (ap outcome_lines (take_more outcomes place default below))
 
 pub lines-done : (outcomes : List Outcome) (place : ℕ) (text : List ℕ) → length outcomes ≤ place

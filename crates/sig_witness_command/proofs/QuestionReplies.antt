@@ -137,10 +137,10 @@ notes-replied text request start updates r are =
 -- ---- a list that is written can be given back
 
 pub lists_given_back : WitnessListsAreGivenBack
-lists_given_back front behind list reply is lists =
+lists_given_back front after list reply is lists =
     let has = is.succeeds.0 (ap (λ (r : Reply). r.status) lists) in
     let made = is.lists has.request has.start has.updates has.of has in
-    wherever_put front behind list (witness_rows has.start has.updates) (sym lists ∙ made.1) has.fits
+    wherever_put front after list (witness_rows has.start has.updates) (sym lists ∙ made.1) has.fits
 
 -- ---- the status is small
 

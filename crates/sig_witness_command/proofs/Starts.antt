@@ -21,11 +21,11 @@ added-push logs mid after [] one same is =
 added-push logs mid after (first ∷ later) one (next, step, rest) is =
     (next, step, added-push next mid after later one rest is)
 
-unaddable-behind : (logs mid : Logs) (before : List OriginKey) (one : OriginKey) (rest : List OriginKey)
+unaddable-after : (logs mid : Logs) (before : List OriginKey) (one : OriginKey) (rest : List OriginKey)
     → AreAdded logs before mid → IsUnaddable mid one → HasUnaddable logs (before ++ one ∷ rest)
-unaddable-behind logs mid [] one rest same is = inl (subst (λ (l : Logs). IsUnaddable l one) same is)
-unaddable-behind logs mid (first ∷ later) one rest (next, step, added) is =
-    inr (next, step, unaddable-behind next mid later one rest added is)
+unaddable-after logs mid [] one rest same is = inl (subst (λ (l : Logs). IsUnaddable l one) same is)
+unaddable-after logs mid (first ∷ later) one rest (next, step, added) is =
+    inr (next, step, unaddable-after next mid later one rest added is)
 
 pub added-none : (logs : Logs) (all : List OriginKey) → AreAdded logs (take 0 all) logs
 added-none logs all = refl
@@ -46,7 +46,7 @@ added-stop logs mid all place one below is so_far stops =
     let whole : take place all ++ one ∷ drop (place + 1) all ≡ all =
     sym (append_assoc (take place all) (one ∷ []) (drop (place + 1) all))
     ∙ ap (λ front. front ++ drop (place + 1) all) (sym more) ∙ take-append-drop (place + 1) all in
-    subst (HasUnaddable logs) whole (unaddable-behind logs mid (take place all) one (drop (place + 1) all) so_far stops)
+    subst (HasUnaddable logs) whole (unaddable-after logs mid (take place all) one (drop (place + 1) all) so_far stops)
 
 pub added-done : (logs after : Logs) (all : List OriginKey) (place : ℕ) → length all ≤ place
     → AreAdded logs (take place all) after → AreAdded logs all after

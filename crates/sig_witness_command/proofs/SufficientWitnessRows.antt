@@ -168,7 +168,7 @@ module _ (a b : VerifyScheme → List ℕ → List ℕ → List ℕ → Bool) (s
             (subst (Contains (first ∷ [])) (one-update text first update also read) (here first []))))
       ]) in
       let (other, still) = text-same logs text next keys each step in
-      let behind : (us : List Update) × AreUpdates later us × ((update : Update) → Contains us update → IsAlike update) =
+      let remaining : (us : List Update) × AreUpdates later us × ((update : Update) → Contains us update → IsAlike update) =
       (elim are [
         | inl (_, same) ↦ (updates, same, alike)
         | inr (first, _, (more, cut, same)) ↦ (
@@ -178,7 +178,7 @@ module _ (a b : VerifyScheme → List ℕ → List ℕ → List ℕ → Bool) (s
               (Contains-append_right (first ∷ []) more update there)),
         )
       ]) in
-      let (us, us_are, us_alike) = behind in (
+      let (us, us_are, us_alike) = remaining in (
         outcome,
         next,
         others,
@@ -193,7 +193,7 @@ in-mapped : {X Y : Type 0} (f : X → Y) (xs : List X) (x : X) → Contains xs x
 in-mapped {X} f [] x there = absurd (omega (arith, there.1))
 in-mapped {X} f (y ∷ ys) x there = elim (first-or-later y x ys there) [
   | inl same ↦ subst (λ (z : X). Contains (f y ∷ map f ys) (f z)) same (here (f y) (map f ys))
-  | inr behind ↦ later (f y) (f x) (map f ys) (in-mapped f ys x behind)
+  | inr after ↦ later (f y) (f x) (map f ys) (in-mapped f ys x after)
 ]
 
 in-updates : (start : Logs) (updates : List Update) (update : Update) (row : AcceptedRow) → Contains updates update
@@ -203,9 +203,9 @@ in-updates start (first ∷ rest) update row there inside = elim (first-or-later
   | inl same ↦
       Contains-append_left (checkpoint_rows start first.checkpoint) (update_rows start rest) row
       (subst (λ (u : Update). Contains (checkpoint_rows start u.checkpoint) row) (sym same) inside)
-  | inr behind ↦
+  | inr after ↦
       Contains-append_right (checkpoint_rows start first.checkpoint) (update_rows start rest) row
-      (in-updates start rest update row behind inside)
+      (in-updates start rest update row after inside)
 ]
 
 listed-row : (start : Logs) (updates : List Update) (update : Update) (key : CosignVerificationKey)

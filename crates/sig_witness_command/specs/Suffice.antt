@@ -57,5 +57,5 @@ WitnessRowsAreEachOnce =
 -- a request may have.
 abbrev pub WitnessListsAreGivenBack : Type 0
 WitnessListsAreGivenBack =
-    (front behind list : List ℕ) (reply : Reply) → IsWitnessQuestionsReply (front ++ behind) reply → reply ≡ listed list
-    → length (front ++ (accepted_name ++ (list ++ behind))) ≤ most_bytes
+    (front after list : List ℕ) (reply : Reply) → IsWitnessQuestionsReply (front ++ after) reply → reply ≡ listed list
+    → length (front ++ (accepted_name ++ (list ++ after))) ≤ most_bytes

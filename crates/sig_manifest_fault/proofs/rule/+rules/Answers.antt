@@ -8,8 +8,8 @@ use Rattle.sig_manifest_fault.proofs.rule.+rules.Goals as goal
 pub each_rule-returns-in-Err : goal.each_rule-returns-in-Err
 each_rule-returns-in-Err t c =
     element_wrong (fault_of (nested c.args.levels)) (tree c.args.json) (tree c.in-Some-item.element) c.in-Some.count
-    c.elements.index c.in-Err.error c.behind_index.result _ c.in-Some.ensures c.elements-test.true
-    c.in-Some-item.ensures c.in-Err.ensures c.behind_index.ensures c.elements.invariant
+    c.elements.index c.in-Err.error c.after_index.result _ c.in-Some.ensures c.elements-test.true
+    c.in-Some-item.ensures c.in-Err.ensures c.after_index.ensures c.elements.invariant
 
 pub each_rule-elements-preserved : goal.each_rule-elements-preserved
 each_rule-elements-preserved t c =

@@ -8,8 +8,8 @@ use Rattle.sig_request_fault.proofs.audit.watches.Goals as goal
 pub returns-in-Err : goal.returns-in-Err
 returns-in-Err c =
     element_wrong (fault_of (watch_table c.args.count)) (tree c.args.json) (tree c.in-Some-item.element) c.in-Some.len
-    c.elements.index c.in-Err.error c.behind_index.result _ c.in-Some.ensures c.elements-test.true
-    c.in-Some-item.ensures c.in-Err.ensures c.behind_index.ensures c.elements.invariant
+    c.elements.index c.in-Err.error c.after_index.result _ c.in-Some.ensures c.elements-test.true
+    c.in-Some-item.ensures c.in-Err.ensures c.after_index.ensures c.elements.invariant
 
 pub elements-preserved : goal.elements-preserved
 elements-preserved c =

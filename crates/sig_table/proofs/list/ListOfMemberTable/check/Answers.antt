@@ -7,8 +7,8 @@ use Rattle.sig_table.proofs.list.ListOfMemberTable.check.Goals as goal
 pub returns-in-Err : goal.returns-in-Err
 returns-in-Err g c =
     element_wrong (fault_of g.T.MemberTable.table) (tree c.args.json) (tree c.in-Some-item.element) c.in-Some.count
-    c.elements.index c.in-Err.error c.behind_index.result _ c.in-Some.ensures c.elements-test.true
-    c.in-Some-item.ensures c.in-Err.ensures c.behind_index.ensures c.elements.invariant
+    c.elements.index c.in-Err.error c.after_index.result _ c.in-Some.ensures c.elements-test.true
+    c.in-Some-item.ensures c.in-Err.ensures c.after_index.ensures c.elements.invariant
 
 pub elements-preserved : goal.elements-preserved
 elements-preserved g c =

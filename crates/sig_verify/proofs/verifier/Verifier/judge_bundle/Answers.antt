@@ -1,6 +1,6 @@
 use Rattle.std.proofs.Common.{◌≡◌, Err, rules}
 use Rattle.sig_verify.proofs.CertificateBytes.{read_of_bundle}
-use Rattle.sig_verify.proofs.VerdictSteps.{behind_checks, few_further, not_passed}
+use Rattle.sig_verify.proofs.VerdictSteps.{after_checks, few_further, not_passed}
 use Rattle.sig_verify.proofs.VerifiedBundles.{verdict_linked}
 use Rattle.sig_verify.specs.Errors.{of_bundle}
 use Rattle.sig_verify.specs.Verdict.{checker_of, policy_of}
@@ -39,14 +39,14 @@ returns-clause-links g c =
     (policy_of g.P.VerificationPolicy c.args.inputs.now.policy.now) c.args.self.now c.args.inputs.now.digest.now
     c.args.offline c.args.bundle.now (read_of_bundle c.args.bundle.now c.is_certificate_bytes.ensures)
     c.judge_checked.result
-    (behind_checks (checker_of g.C.SignatureChecker c.args.inputs.now.checker.now) c.args.self.now
+    (after_checks (checker_of g.C.SignatureChecker c.args.inputs.now.checker.now) c.args.self.now
     (policy_of g.P.VerificationPolicy c.args.inputs.now.policy.now) c.args.inputs.now.digest.now c.args.offline
     c.args.bundle.now c.in_ok-checked.checked c.in_ok-checked.ensures.answer.0 c.judge_checked.result
     c.judge_checked.ensures)
 
 pub returns-clause-steps : goal.returns-clause-steps
 returns-clause-steps g c =
-    behind_checks (checker_of g.C.SignatureChecker c.args.inputs.now.checker.now) c.args.self.now
+    after_checks (checker_of g.C.SignatureChecker c.args.inputs.now.checker.now) c.args.self.now
     (policy_of g.P.VerificationPolicy c.args.inputs.now.policy.now) c.args.inputs.now.digest.now c.args.offline
     c.args.bundle.now c.in_ok-checked.checked c.in_ok-checked.ensures.answer.0 c.judge_checked.result
     c.judge_checked.ensures

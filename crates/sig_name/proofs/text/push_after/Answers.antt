@@ -4,7 +4,7 @@ use Rattle.std.proofs.lemmas.Bool.{eqb-true}
 use Rattle.std.proofs.lemmas.Result.{on_ok_weaker}
 use Rattle.sig_name.proofs.Parts.{some_left}
 use Rattle.sig_name.proofs.Values.{last_pushed, more_pushed}
-use Rattle.sig_name.proofs.text.push_behind.Goals as goal
+use Rattle.sig_name.proofs.text.push_after.Goals as goal
 
 pub returns-then-is_empty : goal.returns-then-is_empty
 returns-then-is_empty c =
