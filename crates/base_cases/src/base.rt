@@ -10,7 +10,7 @@ pub(crate) fn digest(arguments: &mut Arguments<'_>, answer: &mut Answer) {
     answer.hex(&sha256(&arguments.hex()));
 }
 
-/// `of_base64 TEXT`: a copy of the bytes of a text in base64; `None` if it is none.
+/// `of_base64 TEXT`: a copy of the bytes of a text in base64; `None` if it is not base64.
 pub(crate) fn of_base64(arguments: &mut Arguments<'_>, answer: &mut Answer) {
     let alloc = arguments.alloc();
     match Bytes::of_base64(alloc, &arguments.hex()) {

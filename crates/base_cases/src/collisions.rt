@@ -14,8 +14,9 @@ use sig_merkle::{
 };
 use std::alloc::{AllocError, Global};
 
-/// `fronts OLD NEW`: of so many numbered entries and the first of them: the digest of both roots, by `front_roots`, and
-/// a letter for what `consistency_collision` returns of the proof between them beside the entries, beside them with the
+/// `fronts OLD NEW`: the digest of both roots of `front_roots`, for `NEW` numbered entries of which the first `OLD` are
+/// the old tree; then a letter for what `consistency_collision` returns of the proof beside the entries, beside them
+/// with the
 /// first or the last changed, and beside one more and one fewer: `n` for `None`, `x` where the proof is not accepted.
 pub(crate) fn fronts(arguments: &mut Arguments<'_>, answer: &mut Answer) {
     let old = arguments.natural();
@@ -29,7 +30,7 @@ pub(crate) fn fronts(arguments: &mut Arguments<'_>, answer: &mut Answer) {
     }
 }
 
-/// The entries `entry 0`, `entry 1` and so on, so many of them, of which the one of this number is `other`.
+/// The entries `entry 0`, `entry 1` and so on, `count` of them, with `other` in place of the one of this number.
 fn listed(alloc: Global, answer: &mut Answer, count: u64, changed: u64) -> Entries {
     let mut entries = Entries::new(alloc);
     for number in 0..count {
@@ -142,9 +143,9 @@ fn letter(found: Result<Option<Collision>, OutOfMemory>) -> &'static str {
     }
 }
 
-/// `twins INDEX COUNT`: of the path of one of so many numbered entries, a letter for what `proof_collision` returns of
-/// it and itself, and of it and itself for another entry; and for what `inclusion_collision` returns of it beside the
-/// entries, and beside them with this one changed.
+/// `twins INDEX COUNT`: a letter for what `proof_collision` returns of an entry's path and itself, and of both for
+/// another entry; and for what `inclusion_collision` returns of the path beside the entries, and beside them with this
+/// one changed.
 pub(crate) fn twins(arguments: &mut Arguments<'_>, answer: &mut Answer) {
     let index = arguments.natural();
     let count = arguments.natural();

@@ -31,9 +31,9 @@ pub(crate) fn proof(arguments: &mut Arguments<'_>, answer: &mut Answer) {
     show(answer, proof_of(arguments.alloc(), &entries, old));
 }
 
-/// `sweep OLD NEW`: of two trees of the entries `entry 0`, `entry 1` and so on, the hash of the proof's hashes, and a
-/// letter for what the check returns of the proof, of it with each hash changed, dropped and doubled, and of it with
-/// each size one less and one more.
+/// `sweep OLD NEW`: the hash of the proof's hashes between two trees of `entry 0`, `entry 1` and so on, and a letter
+/// for what the check returns of the proof, of it with each hash changed, dropped and doubled, and of it with each size
+/// one less and one more.
 pub(crate) fn sweep(arguments: &mut Arguments<'_>, answer: &mut Answer) {
     let old = arguments.natural() as usize;
     let entries = numbered(arguments, answer);

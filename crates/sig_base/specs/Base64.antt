@@ -8,6 +8,6 @@ use Rattle.base64.specs.GeneralPurpose.{encode_of, decode_of}
 unfoldable pub base64_text : List ℕ → List ℕ
 base64_text bytes = encode_of standard bytes
 
--- the bytes of a text that is exactly such, none of any other
+-- the bytes of a text that is exactly such, `None` for any other
 unfoldable pub base64_bytes : List ℕ → Option (List ℕ)
 base64_bytes text = result_ok (decode_of standard text)

@@ -23,7 +23,7 @@ matches operation scheme key message signature row =
 abbrev pub accepted : List AcceptedRow → Operation → List ℕ → List ℕ → List ℕ → List ℕ → Bool
 accepted rows operation scheme key message signature = list_any (matches operation scheme key message signature) rows
 
--- the key of the row at an index, none of no row
+-- the key of the row at an index, empty if there is no such row
 abbrev pub key_of : Option AcceptedRow → List ℕ
 key_of None = []
 key_of (Some row) = row.key

@@ -24,7 +24,7 @@ has_part part rows bytes = list_any (λ row. bytes_eq (part_of part row) bytes) 
 abbrev pub bytes_cmp : List ℕ → List ℕ → Ordering
 bytes_cmp = slice_cmp nat_cmp
 
--- that of the row at an index
+-- the part of the row at an index
 abbrev pub part_at : RowPart → List AcceptedRow → ℕ → Option (List ℕ)
 part_at part rows index = option_map (part_of part) (slice_get rows index)
 
@@ -41,7 +41,7 @@ pub record IsOrderBy (part : RowPart) (rows : List AcceptedRow) (order : List �
   pub covers : (index : ℕ) → index < length rows → Contains order index
   pub ascends : Ascends part rows order
 
--- of each part
+-- the orders of each part
 pub record AreOrders (rows : List AcceptedRow) (orders : PartOrders) : Type 0 where
   pub keys : IsOrderBy Key rows orders.keys.items
   pub messages : IsOrderBy Message rows orders.messages.items

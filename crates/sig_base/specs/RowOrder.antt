@@ -1,5 +1,5 @@
 -- The order in which a table of accepted rows is searched: the last bytes of signature, message and key, then the
--- operation first, the message last; of a certificate the key last, so that its keys stand side by side.
+-- operation first, the message last; for a certificate the key last, so that its keys are side by side.
 use Rattle.std.specs.Prelude.{◌≡◌, ◌↔◌, ℕ, ◌<◌, ◌+◌, ◌-◌, ◌*◌, nat_lt, if◌then◌else◌, List, length, slice_get}
 use Rattle.std.specs.Prelude.{slice_index, Contains, Some}
 use Rattle.std.specs.Option.{option_cmp}
@@ -13,13 +13,13 @@ use Rattle.sig_base.specs.declared.checker.Operation.{Operation}
 use Rattle.sig_base.specs.declared.checker.Operation.TheVariants.{Message, Prehash, Point, Certificate}
 use Rattle.sig_base.specs.Checker.{operation_code}
 
--- the last four bytes as a number, 0 of fewer
+-- the last four bytes as a number, 0 if there are fewer
 unfoldable pub ending : List ℕ → ℕ
 ending bytes =
     let at = λ (back : ℕ). slice_index bytes (length bytes - back) in
     if nat_lt (length bytes) 4 then 0 else (((at 4 * 256 + at 3) * 256 + at 2) * 256 + at 1)
 
--- the ending of a key, 0 of a certificate's
+-- the ending of a key, 0 for a certificate
 unfoldable pub key_ending : Operation → List ℕ → ℕ
 key_ending Message key = ending key
 key_ending Prehash key = ending key
@@ -44,11 +44,12 @@ leading_of Certificate message key = message
 unfoldable pub leading : AcceptedRow → List ℕ
 leading row = leading_of row.operation row.message row.key
 
--- and the other one
+-- the other one of message and key
 unfoldable pub following : AcceptedRow → List ℕ
 following row = leading_of row.operation row.key row.message
 
--- one row before another by all but the following part: the endings, operation, signature, scheme, the leading part
+-- one row before another by all parts except the following one: the endings, operation, signature, scheme, the leading
+-- part
 unfoldable pub group_order : AcceptedRow → AcceptedRow → Ordering
 group_order =
     then_cmp (then_cmp (then_cmp (then_cmp
@@ -66,11 +67,11 @@ row_order = then_cmp group_order (on following (slice_cmp nat_cmp))
 abbrev pub order_at : List AcceptedRow → ℕ → ℕ → Ordering
 order_at rows one other = option_cmp row_order (slice_get rows one) (slice_get rows other)
 
--- the row at an index before another row, by all but the following part
+-- the row at an index before another row, by all parts except the following one
 abbrev pub group_at : List AcceptedRow → ℕ → AcceptedRow → Ordering
 group_at rows index row = option_cmp group_order (slice_get rows index) (Some row)
 
--- the indices among these whose rows tie with another row in all but the following part
+-- the indices among these whose rows tie with another row in all parts except the following one
 abbrev pub IsGroupOf : List AcceptedRow → List ℕ → AcceptedRow → List ℕ → Type 0
 IsGroupOf rows order row group =
     (index : ℕ) → Contains group index ↔ (Contains order index × (group_at rows index row ≡ Equal))

@@ -43,7 +43,7 @@ HasDefaultSize (signing.RSA_PKCS1_SHA256 size) = size ≡ 2048
 HasDefaultSize _ = Unit {0}
 
 -- the result of a reader of names: the scheme of that name, with a key of the default size; an error if and only if
--- the text is none of the six names
+-- the text is not one of the six names
 pub record IsReadOf (text : List ℕ) (read : Result SigningScheme UnknownScheme) : Type 0 where
   pub named : IfOk read (λ scheme. name_of (scheme_of scheme) ≡ text)
   pub sized : IfOk read HasDefaultSize

@@ -17,7 +17,7 @@ pub record HasCause {T E : Type 0} (before now : ℕ) (result : Result T E) : Ty
 abbrev pub Moves : {E : Type 0} → Result ℕ E → List ℕ → Type 0
 Moves result piece = IfOk result (λ count. 0 < length piece → 0 < count)
 
--- this piece was handed over after those before it, where they are told
+-- this piece was given after those before it, where they are told
 abbrev pub Hands : Option (List (List ℕ)) → Option (List (List ℕ)) → List ℕ → Type 0
 Hands None new piece = ⊤
 Hands (Some before) new piece = new ≡ Some (before ++ piece ∷ [])

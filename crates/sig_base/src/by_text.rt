@@ -32,7 +32,7 @@ impl<V> Model for ByText<V> {
 }
 
 impl<V> ByText<V> {
-    /// A map without entries. It takes no memory.
+    /// Returns a map without entries. It takes no memory.
     pub fn new(alloc: Global) -> ByText<V>
         ensures { result ≡ [] }
     {
@@ -42,7 +42,7 @@ impl<V> ByText<V> {
         }
     }
 
-    /// How many entries there are.
+    /// Returns the number of entries.
     #[tactic(auto, using(crate::proofs::Texts::text_maps))]
     pub fn len(&self) -> usize
         ensures { result ≡ length self.now }
@@ -50,7 +50,7 @@ impl<V> ByText<V> {
         self.entries.len()
     }
 
-    /// The value of a text; none where the text is not there.
+    /// Returns the value of a text, or `None` if the text has none.
     #[tactic(auto, using(crate::proofs::Texts::text_maps))]
     pub fn get(&self, key: &str) -> Option<&V>
         ensures value { option_copied result ≡ text_lookup key.now self.now }
@@ -68,7 +68,7 @@ impl<V> ByText<V> {
         self.iter().nth(place)
     }
 
-    /// The entries in byte order of the texts. It takes no memory.
+    /// Returns the entries in byte order of the texts. It takes no memory.
     #[tactic(auto, using(crate::proofs::Texts::text_maps))]
     pub fn iter(&self) -> ByTextEntries<'_, V>
         ensures rest { result ≡ self.now }

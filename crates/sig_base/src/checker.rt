@@ -1,4 +1,4 @@
-//! Who says whether a signature is genuine: a [`SignatureChecker`]; the one of this program is a table of accepted
+//! What says whether a signature is genuine: a [`SignatureChecker`]; the one of this program is a table of accepted
 //! rows.
 ghost use Rattle.std.specs.Prelude.{◌≡◌, ◌↔◌, Bool, List, ℕ, [], ◌∷◌, ◌++◌, IfOk, IfSome, OnOk, OnErr};
 ghost use Rattle.std.specs.Prelude.{IsTrue, Contains};
@@ -64,8 +64,7 @@ pub trait SignatureChecker {
     fn verify_p256_point(&self, point: &[u8], message: &[u8], signature: &[u8]) -> bool
         ensures { result ≡ point_accepts self.now point.now message.now signature.now };
 
-    /// Whether `signature` over the TBSCertificate `tbs` is genuine under the issuer's SPKI and the `algorithm` (all
-    /// DER).
+    /// Whether `signature` over the TBSCertificate `tbs` is genuine under the issuer's SPKI and `algorithm` (all DER).
     fn verify_cert_signature(
         &self,
         issuer_spki: &[u8],
@@ -98,7 +97,7 @@ pub enum Operation {
     Certificate,
 }
 
-/// One signature that is taken for genuine.
+/// A signature that the table accepts as genuine.
 #[derive(Drop)]
 pub struct AcceptedRow {
     /// The question that the row is for.
@@ -118,7 +117,7 @@ pub struct AcceptedRow {
 pub struct TableChecker {
     rows: OwnedList<AcceptedRow>,
     order: Vec<usize>,
-    /// What `has` is answered from, if it was asked for.
+    /// The orders in which `has` searches, once `order_parts` made them.
     parts: Option<PartOrders>,
 }
 
@@ -173,8 +172,8 @@ impl TableChecker {
         self.rows.as_slice()
     }
 
-    /// Sorts the rows by each of their parts too, so that [`has`](TableChecker::has) is a binary search until a row is added:
-    /// for a table that is asked many times. Fails only if out of memory.
+    /// Sorts the rows by each of their parts too, so that [`has`](TableChecker::has) is a binary search until a row is
+    /// added: for a table that is asked many times. Fails only if out of memory.
     pub fn order_parts(&mut self, alloc: Global) -> Result<(), OutOfMemory>
         ensures { self.new ≡ self.old }
     {
@@ -182,8 +181,8 @@ impl TableChecker {
         Ok(())
     }
 
-    /// Whether some row of the table has these bytes as this part, whatever else it has. It goes over all rows, unless they
-    /// were sorted by [`order_parts`](TableChecker::order_parts).
+    /// Whether some row of the table has these bytes as this part, whatever else it has. It goes over all rows, unless
+    /// they were sorted by [`order_parts`](TableChecker::order_parts).
     pub fn has(&self, part: RowPart, bytes: &[u8]) -> bool
         ensures { result ≡ has_part part self.now bytes.now }
     {
@@ -194,8 +193,8 @@ impl TableChecker {
         }
     }
 
-    /// Adds a row at the end. It sorts the table anew, so make a table of many rows by `from_rows`. Fails only if out of
-    /// memory; the table is then unchanged.
+    /// Adds a row at the end. It sorts the table anew, so make a table of many rows by `from_rows`. Fails only if out
+    /// of memory; the table is then unchanged.
     pub fn push(&mut self, row: AcceptedRow) -> Result<(), OutOfMemory>
         ensures ok { OnOk result (self.new ≡ self.old ++ row ∷ []) }
         ensures err { OnErr result (self.new ≡ self.old) }
@@ -209,9 +208,9 @@ impl TableChecker {
         Ok(())
     }
 
-    /// Whether a row of the table equals all five parts. A binary search: it compares with about as many rows as the
-    /// number of rows has binary digits, and compares whole messages only with a row that equals all other parts, of a
-    /// certificate all but the key.
+    /// Whether a row of the table equals all five parts. A binary search: it compares about as many rows as the number
+    /// of rows has binary digits. It compares whole messages only with a row that equals all other parts (for a
+    /// certificate, all except the key).
     pub fn accepts(
         &self,
         operation: Operation,

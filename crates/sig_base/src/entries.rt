@@ -23,7 +23,7 @@ impl Model for Entries {
 }
 
 impl Entries {
-    /// A list without entries. It takes no memory.
+    /// Returns a list without entries. It takes no memory.
     pub fn new(alloc: Global) -> Entries
         ensures { result ≡ [] }
     {
@@ -33,7 +33,7 @@ impl Entries {
         }
     }
 
-    /// The list of these byte strings, which are not copied. It takes no memory.
+    /// Returns the list of these byte strings, which are not copied. It takes no memory.
     pub fn of(alloc: Global, items: OwnedList<Bytes>) -> Entries
         ensures { result ≡ items }
     {
@@ -49,7 +49,7 @@ impl Entries {
         self.items.push(copied)
     }
 
-    /// How many entries there are.
+    /// Returns the number of entries.
     pub fn len(&self) -> usize
         ensures { result ≡ length self.now }
     {

@@ -8,7 +8,7 @@ use std::alloc::{AllocError, AllocFailed};
 use std::error::Error;
 use std::fmt;
 
-/// The result of a call that fails with the crate's error.
+/// The result of a call that fails with `SigstoreError`.
 pub type Result<T> = std::result::Result<T, SigstoreError>;
 
 /// Why a call fails. Each variant is one cause, and keeps indices, seconds or faults and no sentences.
@@ -20,7 +20,7 @@ pub enum SigstoreError {
     HexDecodeError,
     /// Bytes are not UTF-8.
     Utf8Error,
-    /// A document is none of its kind.
+    /// A document is not one of its kind.
     SerdeJsonError,
     /// A text is not a signed checkpoint.
     ParseCheckpointError(CheckpointFault),
@@ -60,7 +60,7 @@ pub enum SigstoreError {
     X509Error,
     /// A checkpoint and a proof, or two heads, do not agree.
     ConsistencyProofError(MerkleProofError),
-    /// The check of an inclusion proof fails.
+    /// An inclusion proof is rejected.
     InclusionProofError(MerkleProofError),
     /// No key of a log has this id.
     RekorPublicKeyNotFoundError(Text),
@@ -78,9 +78,9 @@ pub enum SigstoreError {
     SigstoreAnnotationNotFoundError,
     /// No layer could be verified.
     SigstoreNoVerifiedLayer,
-    /// For a caller's own verification constraints; no call here gives it.
+    /// For a caller's own verification constraints; no call here returns it.
     VerificationConstraintError(Text),
-    /// For a caller's own signing constraints; no call here gives it.
+    /// For a caller's own signing constraints; no call here returns it.
     ApplyConstraintError(Text),
     /// Something is not as the call expects it.
     UnexpectedError(UnexpectedKind),

@@ -8,7 +8,7 @@ pub enum DerError {
     /// Bytes are missing.
     #[error("Truncated")]
     Truncated,
-    /// The tag's low five bits are all ones: it would go on in further bytes.
+    /// The tag's low five bits are all ones: it would continue in further bytes.
     #[error("LongTag")]
     LongTag,
     /// The length is indefinite, longer than four bytes, or not minimal.
@@ -63,7 +63,7 @@ pub enum CheckpointFault {
 /// Why a pool has no issuer of a certificate, or could not be made.
 #[derive(Clone, Copy, Debug, PartialEq, Eq, Error)]
 pub enum PoolError {
-    /// There is this number of intermediates, above 1024.
+    /// The number of intermediates, which is above 1024.
     #[error("TooMany")]
     TooMany(usize),
     /// The certificate at this index of the list is not a trust anchor.
@@ -119,7 +119,7 @@ pub enum PkiFault {
     TrustedRootMissing,
 }
 
-/// The part of a trusted root that has nothing to offer at the time asked.
+/// The part of a trusted root that has nothing valid at the time asked.
 #[derive(Clone, Copy, Debug, PartialEq, Eq, Error)]
 pub enum TrustPart {
     /// No certificate authority.

@@ -23,7 +23,7 @@ impl<'a> Model for KeyList<'a> {
 }
 
 impl<'a> KeyList<'a> {
-    /// Returns the list of the keys of the rows at these indices. An index that no row has stands for an empty key.
+    /// Returns the list of the keys of the rows at these indices. An index that no row has gives an empty key.
     pub fn new(rows: &'a [AcceptedRow], places: &'a [usize]) -> KeyList<'a>
         ensures { result ≡ map (key_at rows.now) places.now }
     {
@@ -37,7 +37,7 @@ impl<'a> KeyList<'a> {
         self.places.len()
     }
 
-    /// Whether there is none.
+    /// Whether there are no keys.
     pub fn is_empty(&self) -> bool
         ensures { result ≡ (length self.now == 0) }
     {
@@ -55,7 +55,7 @@ impl<'a> KeyList<'a> {
     }
 }
 
-/// Returns the key of the row at an index, an empty one if there is none.
+/// Returns the key of the row at an index, or an empty one if there is no such row.
 fn key_at(rows: &[AcceptedRow], place: usize) -> &[u8]
     ensures { result.now ≡ key_at rows.now place }
 {

@@ -14,8 +14,8 @@ pub fn base64_texts()
         → (base64_bytes text ≡ Some bytes) ↔ (text ≡ base64_text bytes) }
 {}
 
-/// Where the texts of the entries ascend in byte order, what is found at a text is the value of its entry, and nothing
-/// is found if and only if there is no entry of that text.
+/// If the texts of the entries ascend in byte order, the value found at a text is that of its entry, and nothing is
+/// found if and only if there is no entry of that text.
 pub fn entries_found<V>()
     ensures found { (text : List ℕ) (value : V) (entries : List (List ℕ × V)) → KeysAscend entries
         → (text_lookup text entries ≡ Some value) ↔ Contains entries (text, value) }

@@ -1,10 +1,10 @@
-//! What every crate of the house depends on: bytes, texts and lists that own their memory, the errors, and the traits
-//! of the outside.
+//! What every crate of this project depends on: bytes, texts and lists that own their memory, the errors, and the
+//! traits of the outside.
 //!
-//! The layer above uses five facts. An `OwnedList` is the list of what was pushed, and a push that fails changes nothing.
-//! A map from texts is the list of its entries in byte order, each text once. A text is base64 if and only if it is
-//! the one encoding of its bytes. A fault of a source or a sink comes only where its count of faults rose. A signature
-//! check is a predicate of the bytes that it is handed.
+//! The layer above uses five facts. An `OwnedList` is the list of what was pushed, and a push that fails changes
+//! nothing. A map from texts is the list of its entries in byte order, each text once. A text is base64 if and only if
+//! it is the one encoding of its bytes. A fault of a source or a sink comes only where its count of faults rose. A
+//! signature check is a predicate of the bytes that it is given.
 #![tactic(auto)]
 
 mod base64_coding;

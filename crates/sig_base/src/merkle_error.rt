@@ -10,7 +10,7 @@ use thiserror::Error;
 /// Its text is the name of its variant; what it keeps is in its fields.
 #[derive(Clone, Copy, Debug, PartialEq, Eq, Error)]
 pub enum MerkleProofError {
-    /// The root that the proof leads to, `expected`, is not the root that was handed in, `got`.
+    /// The root that the proof leads to, `expected`, is not the given root, `got`.
     #[error("MismatchedRoot")]
     MismatchedRoot { expected: RootHex, got: RootHex },
     /// The index is not below the size of the tree.
@@ -25,7 +25,7 @@ pub enum MerkleProofError {
     /// The new tree has fewer leaves than the old.
     #[error("NewTreeSmaller")]
     NewTreeSmaller { new: u64, old: u64 },
-    /// The proof has `got` hashes, and a proof for these sizes has `want`.
+    /// The proof has `got` hashes, but a proof for these sizes has `want`.
     #[error("WrongProofSize")]
     WrongProofSize { got: u64, want: u64 },
     /// The old tree is empty, and its root is not the hash of nothing.

@@ -30,7 +30,7 @@ impl<T> Model for OwnedList<T> {
 }
 
 impl<T> OwnedList<T> {
-    /// A list without elements. It takes no memory.
+    /// Returns a list without elements. It takes no memory.
     pub fn new(alloc: Global) -> OwnedList<T>
         ensures { result ≡ [] }
     {
@@ -39,7 +39,7 @@ impl<T> OwnedList<T> {
         }
     }
 
-    /// How many elements there are.
+    /// Returns the number of elements.
     pub fn len(&self) -> usize
         ensures { result ≡ length self.now }
     {

@@ -1,4 +1,4 @@
-//! Accepted rows in the order of one of their parts: so it is found by a binary search whether some row has it.
+//! Accepted rows in the order of one of their parts: so a binary search finds whether some row has it.
 ghost use Rattle.std.specs.Prelude.{◌≡◌, IfOk, IsPermutation, Some};
 ghost use Rattle.std.specs.Option.{option_cmp};
 ghost use Rattle.sig_base.specs.PartOrder.{AreOrders, Ascends, IsOrderBy, bytes_cmp, has_part, order_at, part_at, part_of};
@@ -54,7 +54,7 @@ impl PartOrders {
     }
 }
 
-/// Whether some row has these bytes as this part, asked row by row.
+/// Whether some row has these bytes as this part: the same, row by row.
 pub fn some_row_has(rows: &[AcceptedRow], part: RowPart, bytes: &[u8]) -> bool
     ensures { result ≡ has_part part rows.now bytes.now }
 {

@@ -1,7 +1,7 @@
 //! The order in which a table of accepted rows is searched. The last bytes of signature, message and key come first:
 //! they tell most rows apart at once. Then come the parts, from the operation on. The message comes last, since it may
-//! be long: it is compared only where all else is equal. Of a certificate the key comes last, and its ending not at
-//! all, so that all keys of one signature stand side by side.
+//! be long: it is compared only where all else is equal. For a certificate the key comes last, and its ending does not
+//! count, so that all keys of one signature are side by side.
 ghost use Rattle.std.specs.Prelude.{◌≡◌, Some, IfOk, slice_get, IsPermutation};
 ghost use Rattle.std.specs.Option.{option_cmp};
 ghost use Rattle.sig_base.specs.Checker.{operation_code};
@@ -68,7 +68,7 @@ impl<'a> RowParts<'a> {
         }
     }
 
-    /// Compares two rows: by all but the following part, then that part.
+    /// Compares two rows: by all parts except the following one, then by that one.
     #[tactic(auto, using(crate::proofs::Orderings::steps), unfolding(crate::specs::RowOrder::row_order))]
     #[inline(always)]
     fn order(&self, other: &RowParts<'_>) -> Ordering
@@ -80,7 +80,8 @@ impl<'a> RowParts<'a> {
         }
     }
 
-    /// Compares two rows by all but the following part: the endings, operation, signature, scheme, the leading part.
+    /// Compares two rows by all parts except the following one: the endings, operation, signature, scheme, the leading
+    /// part.
     #[tactic(auto, using(crate::proofs::Orderings::steps), unfolding(crate::specs::RowOrder::group_order))]
     #[inline(always)]
     fn group_order(&self, other: &RowParts<'_>) -> Ordering
@@ -122,7 +123,7 @@ impl<'a> RowParts<'a> {
         self.key_ending().cmp(&other.key_ending())
     }
 
-    /// Returns the ending of the key, 0 of a certificate's, so that it does not part the keys of one signature.
+    /// Returns the ending of the key, 0 for a certificate, so that it does not separate the keys of one signature.
     #[tactic(auto, unfolding(crate::specs::RowOrder::key_ending))]
     #[inline(always)]
     fn key_ending(&self) -> u64
@@ -159,7 +160,7 @@ impl<'a> RowParts<'a> {
     }
 }
 
-/// The last four bytes as a number, 0 of fewer.
+/// The last four bytes as a number, 0 if there are fewer.
 #[tactic(auto, unfolding(crate::specs::RowOrder::ending))]
 #[inline(always)]
 fn ending(bytes: &[u8]) -> u64
@@ -184,8 +185,8 @@ pub fn order_to(rows: &[AcceptedRow], index: usize, other: &RowParts<'_>) -> Ord
     }
 }
 
-/// Returns the indices whose rows tie with another row in all but the following part: for a certificate's row, the rows
-/// that differ from it at most in the key. Two binary searches in the order of the rows.
+/// Returns the indices whose rows tie with another row in all parts except the following one: for a certificate's row,
+/// the rows that differ from it at most in the key. Two binary searches in the order of the rows.
 pub fn group_of<'a>(rows: &[AcceptedRow], order: &'a [usize], other: &RowParts<'_>) -> &'a [usize]
     requires { IsOrderOf rows.now order.now }
     ensures { IsGroupOf rows.now order.now other.now result.now }
@@ -195,7 +196,8 @@ pub fn group_of<'a>(rows: &[AcceptedRow], order: &'a [usize], other: &RowParts<'
     &order[first..end]
 }
 
-/// Compares the row at an index with another row by all but the following part. An index that no row has comes first.
+/// Compares the row at an index with another row by all parts except the following one. An index that no row has comes
+/// first.
 #[inline(always)]
 fn group_to(rows: &[AcceptedRow], index: usize, other: &RowParts<'_>) -> Ordering
     ensures { result ≡ option_cmp group_order (slice_get rows.now index) (Some other.now) }

@@ -6,7 +6,7 @@ ghost use Rattle.sig_base.specs.Scheme.{name_of, scheme_of, IsReadOf};
 use std::fmt;
 use thiserror::Error;
 
-/// The size of an RSA key, in bits, where a scheme's name is all that is known of it.
+/// The size of an RSA key, in bits, if only a scheme's name is known.
 pub const DEFAULT_KEY_SIZE: usize = 2048;
 
 /// The scheme that a signature is checked under: one of the six of [`SigningScheme`], without the size of the key.
@@ -86,7 +86,7 @@ impl fmt::Display for SigningScheme {
     }
 }
 
-/// `ECDSA_P256_SHA256_ASN1`.
+/// The default is `ECDSA_P256_SHA256_ASN1`.
 impl Default for SigningScheme {
     ghost use Rattle.sig_base.specs.declared.scheme.SigningScheme.TheVariants.{ECDSA_P256_SHA256_ASN1};
 
@@ -102,8 +102,8 @@ impl Default for SigningScheme {
 #[error("UnknownScheme")]
 pub struct UnknownScheme;
 
-/// Reads a scheme's name; an RSA key's size is then [`DEFAULT_KEY_SIZE`]. Fails if and only if the text is none of the
-/// six names.
+/// Reads a scheme's name; an RSA key's size is then [`DEFAULT_KEY_SIZE`]. Fails if and only if the text is not one of
+/// the six names.
 impl TryFrom<&str> for SigningScheme {
     type Error = UnknownScheme;
 

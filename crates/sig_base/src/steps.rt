@@ -6,7 +6,7 @@ use std::sync::ledger::{Blank, Book, Ledger, Share};
 
 /// How many steps were taken, a number that only `tick` changes. It takes no bytes.
 ///
-/// Which operation is a step is for the functions that take the counter to say.
+/// The functions that take the counter say which operation is a step.
 #[derive(Drop)]
 pub struct Steps<L: Ledger> {
     book: Book<L>,

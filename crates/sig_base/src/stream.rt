@@ -34,7 +34,7 @@ pub trait Sink {
     /// The bytes that were taken so far, where the sink tells them.
     ghost taken: { Self → Option (List ℕ) };
 
-    /// The pieces that were handed over so far, in order, where the sink tells them.
+    /// The pieces that were given so far, in order, where the sink tells them.
     ghost handed: { Self → Option (List (List ℕ)) };
 
     /// How many faults there were so far.

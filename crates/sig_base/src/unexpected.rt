@@ -8,29 +8,29 @@ pub enum UnexpectedKind {
     BundleUnreadable,
     /// The content is not an envelope.
     ContentNotDsse,
-    /// The envelope's payload type is another one.
+    /// The envelope's payload type is not the expected one.
     PayloadType,
     /// The payload is not an in-toto statement.
     Statement,
-    /// The statement's type is another one.
+    /// The statement's type is not the expected one.
     StatementType,
-    /// The predicate's type is another one.
+    /// The predicate's type is not the expected one.
     PredicateType,
     /// The statement has no subject.
     NoSubjects,
     /// The first subject has no SHA-256 digest.
     FirstSubjectWithoutSha256,
-    /// The subject's digest is another one.
+    /// The subject's digest is not the expected one.
     SubjectDigest,
-    /// The envelope has this number of signatures, which is not one.
+    /// The envelope's number of signatures, which is not one.
     SignatureCount(usize),
     /// The bundle has no verification material.
     MaterialMissing,
     /// The verification material is not a single certificate.
     MaterialNotCertificate,
-    /// The bundle has this number of log entries, which is not one.
+    /// The bundle's number of log entries, which is not one.
     EntryCount(usize),
-    /// No keys of a log were handed in.
+    /// No keys of a log were given.
     KeysMissing,
     /// The log entry has no log id.
     LogIdMissing,
@@ -54,11 +54,11 @@ pub enum UnexpectedKind {
     ProofConversion,
     /// The body has no canonical JSON.
     CanonicalBody,
-    /// The log body speaks of another signature, key or digest.
+    /// The log body is about another signature, key or digest.
     Body,
     /// The layer's bytes are not a simple signing document.
     LayerUnreadable,
-    /// The layer speaks of another image.
+    /// The layer is about another image.
     ImageDigest,
 }
 

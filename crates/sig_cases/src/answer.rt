@@ -6,8 +6,8 @@ use std::fmt::{Debug, Display, Write};
 
 /// The line that is written for a case: items, one space between two of them.
 ///
-/// No call of it fails: out of memory is kept, and ends the program after the case. So a case needs no `?`, which
-/// would have to be proved together with all that the case owns there.
+/// No call of it fails: it records that memory ran out, and ends the program after the case. So a case needs no `?`,
+/// which would have to be proved together with all that the case owns there.
 #[derive(Drop)]
 pub struct Answer {
     alloc: Global,
@@ -91,7 +91,7 @@ impl Answer {
     }
 
     /// Adds an error, by its Debug text. Its Display text has to be the name of its variant, with which the Debug text
-    /// begins; if it is another, it follows in brackets.
+    /// begins; a different one follows in brackets.
     pub fn shown<E: Debug + Display>(&mut self, error: &E) {
         let before = self.text.len();
         self.debug(error);
@@ -105,7 +105,7 @@ impl Answer {
         }
     }
 
-    /// Adds the Display text of an error in brackets, unless the text after `before` begins with it as a name.
+    /// Adds the Display text of an error in brackets, unless the text after `before` begins with this name.
     fn name<E: Display>(&mut self, error: &E, before: usize) {
         match format!(in self.alloc; "{error}") {
             Ok(name) => {
@@ -119,7 +119,7 @@ impl Answer {
         }
     }
 
-    /// Makes the line a bad one.
+    /// Makes the output line `bad line`.
     pub(crate) fn refuse(&mut self) {
         self.text.clear();
         self.value(&"bad line");

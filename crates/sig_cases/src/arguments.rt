@@ -3,9 +3,9 @@ use crate::decode::{base64_bytes, hex_bytes, hex_lists, percent_text};
 use crate::error::CaseError;
 use std::alloc::Global;
 
-/// The arguments of a line that are still to be read.
+/// The arguments of a line that are not read yet.
 ///
-/// No call of it fails: an argument that cannot be read is empty or 0, and makes the whole line a bad one, whatever
+/// No call of it fails: an argument that cannot be read is empty or 0, and makes the whole line a `bad line`, whatever
 /// the case answers. So a case needs no `?`, which would have to be proved together with all that the case owns there.
 #[derive(Drop)]
 pub struct Arguments<'a> {
@@ -30,12 +30,12 @@ impl<'a> Arguments<'a> {
         self.alloc
     }
 
-    /// Whether every argument was read, or one of them cannot be read.
+    /// Whether every argument was read, or one could not be read.
     pub fn is_empty(&self) -> bool {
         self.rest.is_none() || self.fault.is_some()
     }
 
-    /// Makes the line a bad one.
+    /// Makes the output line `bad line`.
     pub fn refuse(&mut self) {
         self.fail(CaseError::BadLine);
     }
@@ -80,13 +80,13 @@ impl<'a> Arguments<'a> {
     }
 
     /// The next argument as bytes in hexadecimal, in either case; `-` is the empty byte string, and `3082+00*65535+ff`
-    /// joins parts, of which one is so many times the same bytes.
+    /// joins parts, where `XX*N` is `N` times the same bytes.
     pub fn hex(&mut self) -> Vec<u8> {
         let read = hex_bytes(self.alloc, shown(self.word()));
         self.or_fail(read, Vec::new(self.alloc))
     }
 
-    /// The value, or an empty one, which makes the line a bad one.
+    /// The value, or an empty one, which makes the output line `bad line`.
     fn or_fail<T>(&mut self, read: Result<T, CaseError>, empty: T) -> T
     where
         T: Drop,
@@ -100,8 +100,8 @@ impl<'a> Arguments<'a> {
         }
     }
 
-    /// The next argument as a list of bytes in hexadecimal, divided by commas, each as [`Arguments::hex`] reads it; `-`
-    /// is the empty list.
+    /// The next argument as a list of bytes in hexadecimal, separated by commas, each as [`Arguments::hex`] reads it;
+    /// `-` is the empty list.
     pub fn hex_list(&mut self) -> Vec<Vec<u8>> {
         let read = hex_lists(self.alloc, self.word());
         self.or_fail(read, Vec::new(self.alloc))
@@ -142,7 +142,7 @@ impl<'a> Arguments<'a> {
     }
 }
 
-/// What a word spells: nothing if it is `-`.
+/// Returns the word, or an empty one for `-`.
 fn shown(word: &str) -> &str {
     if word == "-" { "" } else { word }
 }

@@ -6,7 +6,7 @@ use hex::FromHexError;
 use percent_encoding::percent_decode;
 use std::alloc::Global;
 
-/// A list of bytes in hexadecimal, divided by commas; `-` is the empty list.
+/// A list of bytes in hexadecimal, separated by commas; `-` is the empty list.
 pub(crate) fn hex_lists(alloc: Global, word: &str) -> Result<Vec<Vec<u8>>, CaseError> {
     let mut list = Vec::new(alloc);
     if word != "-" {
@@ -26,7 +26,7 @@ pub(crate) fn hex_bytes(alloc: Global, word: &str) -> Result<Vec<u8>, CaseError>
     Ok(bytes)
 }
 
-/// Appends the bytes of a part: digits, or digits, `*` and how many times they come.
+/// Appends the bytes of a part: digits, or digits, `*` and the number of repetitions.
 fn push_part(alloc: Global, bytes: &mut Vec<u8>, part: &str) -> Result<(), CaseError> {
     let (digits, times) = times_of(part)?;
     let piece = digits_of(alloc, digits)?;

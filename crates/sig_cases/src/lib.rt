@@ -12,9 +12,9 @@
 //!
 //! [`Answer`] writes a result: `ok` and its values, each after one space, or the Debug text of an error. [`Arguments`]
 //! reads the arguments: bytes in hexadecimal or in base64, a list of bytes, an integer, a text in percent-encoding, a
-//! checker of signatures, which a [`Recorder`] keeps the questions of, or the rest of the line. `-` stands for no bytes, for the empty text and for the empty list.
-//! A line that the program cannot read gives `bad line`; no stored output has one. Out of memory and a fault of a
-//! stream end the program with a status that is not 0.
+//! checker of signatures, whose questions a [`Recorder`] keeps, or the rest of the line. `-` stands for no bytes, for
+//! the empty text and for the empty list. A line that the program cannot read gives `bad line`; no stored output has
+//! one. Out of memory and a fault of a stream end the program with a status that is not 0.
 //!
 //! ```text
 //! struct HashCases;

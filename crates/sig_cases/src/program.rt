@@ -8,7 +8,8 @@ use std::io::{self, BufRead, BufReader, BufWriter, Write};
 
 /// A program of cases: what it returns for a line.
 pub trait Cases {
-    /// Calls what `call` names on the arguments, and writes what it returns. Refuses the line if there is no such call.
+    /// Calls what `call` names on the arguments, and writes what it returns. The line is a `bad line` if there is no
+    /// such call.
     fn answer(call: &str, arguments: &mut Arguments<'_>, answer: &mut Answer);
 }
 
@@ -25,7 +26,7 @@ pub fn run<C: Cases>(rt: &HostRuntime) -> Result<()> {
     Ok(())
 }
 
-/// The line that is written for a line.
+/// Returns the output line for an input line.
 fn answer_to<C: Cases>(alloc: Global, line: &str) -> Answer {
     let mut answer = Answer::new(alloc);
     if is_comment(line) {

@@ -22,7 +22,7 @@ pub struct Recorder {
 }
 
 impl Recorder {
-    /// The table, which was asked nothing yet.
+    /// Returns the table, which was not asked anything yet.
     pub fn new(alloc: Global, table: TableChecker) -> Recorder {
         Recorder {
             alloc,
@@ -129,7 +129,7 @@ impl SignatureChecker for Recorder {
 }
 
 impl Recorder {
-    /// Keeps a question. That there is no memory for it is kept too.
+    /// Keeps a question. It also records if there is no memory for it.
     fn keep(&self, key: &[u8], signature: &[u8]) {
         let kept = match (
             question_of(self.alloc, key, signature),

@@ -63,7 +63,7 @@ impl<'a> Arguments<'a> {
         }
     }
 
-    /// The arguments to their end as the rows of a checker, which accepts these signatures alone. A row is
+    /// The arguments to their end as the rows of a checker, which accepts only these signatures. A row is
     /// `message SCHEME KEY MESSAGE SIGNATURE`, `prehash SCHEME KEY DIGEST SIGNATURE`, `point POINT MESSAGE SIGNATURE`
     /// and `certificate ALGORITHM SPKI TBS SIGNATURE`, where a scheme is the name of one.
     pub fn checker(&mut self) -> TableChecker {
@@ -106,7 +106,7 @@ impl<'a> Arguments<'a> {
         }
     }
 
-    /// What a row of this operation has as its scheme: a name, the bytes of an algorithm, or nothing.
+    /// Reads the scheme of a row of this operation: a name, the bytes of an algorithm, or nothing.
     fn scheme(&mut self, operation: Operation) -> Bytes {
         match operation {
             Operation::Message | Operation::Prehash => self.name(),

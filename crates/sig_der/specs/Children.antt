@@ -11,7 +11,7 @@ abbrev pub then_rest : (List ℕ → List (Result Piece DerError)) → Result (P
 then_rest go (Ok x) = Ok x.0 ∷ go x.1
 then_rest go (Err e) = Err e ∷ []
 
--- The number bounds the readings; as many as there are bytes suffice, since each element takes a byte at least.
+-- The number bounds the readings; the number of bytes suffices, since each element takes at least one byte.
 unfoldable pub children_within : ℕ → List ℕ → List (Result Piece DerError)
 children_within zero bytes = []
 children_within (suc n) [] = []

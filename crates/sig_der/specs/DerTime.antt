@@ -1,5 +1,5 @@
 -- Times in certificates: UTCTime and GeneralizedTime of X.690 section 11.7, 11.8 in the forms of RFC 5280 section
--- 4.1.2.5, with two more bounds: a UTCTime of the years 50 to 69 is refused, and a GeneralizedTime is from 1970 on.
+-- 4.1.2.5, with two more bounds: a UTCTime of the years 50 to 69 is rejected, and a GeneralizedTime is from 1970 on.
 use Rattle.std.specs.Prelude.{◌≡◌, ℕ, ◌+◌, ◌%◌, ◌<◌, ◌≤◌, List, [], ◌∷◌, ◌++◌, ◌⊎◌, Bool, ◌||◌, nat_lt, Option, Some}
 use Rattle.std.specs.Prelude.{None, ℤ, ◌==◌, if◌then◌else◌}
 use Rattle.sig_base.specs.declared.fault.DerError.{DerError}

@@ -11,7 +11,7 @@ two_digits n = (48 + n / 10) ∷ (48 + n % 10) ∷ []
 abbrev pub four_digits : ℕ → List ℕ
 four_digits n = two_digits (n / 100) ++ two_digits (n % 100)
 
--- the byte between two numbers, or none
+-- the byte between two numbers, or nothing
 abbrev pub mark_text : Option ℕ → List ℕ
 mark_text None = []
 mark_text (Some b) = b ∷ []

@@ -1,5 +1,5 @@
--- Why bytes begin with no element, in the words of X.690: each cause apart from how it is found. A text has at most one
--- of the three, and none if it begins with an element.
+-- Why bytes do not begin with an element, in the words of X.690: each cause apart from how it is found. A text has at
+-- most one of the three, and none if it begins with an element.
 use Rattle.std.specs.Prelude.{◌≡◌, ◌≢◌, ℕ, ◌%◌, ◌<◌, ◌≤◌, List, ◌∷◌, ◌++◌, length}
 use Rattle.sig_der.specs.Element.{IsElement}
 
@@ -10,7 +10,7 @@ pub record HasLongTag (text : List ℕ) : Type 0 where
   pub parts : text ≡ tag ∷ rest
   pub long : tag % 32 ≡ 31
 
--- The octets begin with no length in the definite form, of at most four octets after the first and no more than are
+-- The octets do not begin with a length in the definite form, of at most four octets after the first and no more than
 -- needed (sections 8.1.3 and 10.1), whatever follows them.
 pub data IsBadLength : List ℕ → Type 0 where
   -- the indefinite form, section 8.1.3.6

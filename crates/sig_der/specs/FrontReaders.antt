@@ -6,7 +6,7 @@ use Rattle.sig_base.specs.OptionSteps.{◌>>=◌}
 use Rattle.sig_base.specs.declared.fault.DerError.{DerError}
 use Rattle.sig_der.specs.Reading.{Piece, element_at}
 
--- the value, if there is one, whatever the error
+-- the value if there is one, `None` for every error
 abbrev pub answered : {A : Type 0} → Result A DerError → Option A
 answered (Ok x) = Some x
 answered (Err e) = None
@@ -36,8 +36,8 @@ take_whole tag bytes = do
   x ← take_tag tag bytes
   if length x.1 == 0 then Some x.0 else None
 
--- All of the text as a list of parts that the reader takes one after another. The number bounds the readings, and as
--- many as there are bytes suffice, since each part takes a byte at least.
+-- All of the text as a list of parts that the reader takes one after another. The number bounds the readings; the
+-- number of bytes suffices, since each part takes at least one byte.
 unfoldable pub many_within : {A : Type 0} → (List ℕ → Option (A × List ℕ)) → ℕ → List ℕ → Option (List A)
 many_within read n [] = Some []
 many_within read zero (b ∷ bytes) = None

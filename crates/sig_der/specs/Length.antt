@@ -2,7 +2,7 @@
 use Rattle.std.specs.Prelude.{◌≡◌, ◌⊎◌, ℕ, ◌+◌, ◌-◌, ◌*◌, ◌^◌, ◌<◌, ◌≤◌, List, [], ◌∷◌, length}
 use Rattle.std.specs.List.{AllByRecursion}
 
--- the number that octets are, the most significant first
+-- the number that the octets encode, the most significant first
 abbrev pub octets_number : List ℕ → ℕ
 octets_number [] = 0
 octets_number (octet ∷ octets) = octet * 256 ^ length octets + octets_number octets

@@ -1,9 +1,9 @@
--- A second of the calendar by its six numbers, and the second since 1970 that it is.
+-- A second of the calendar by its six numbers, and its number of seconds since 1970.
 use Rattle.std.specs.Prelude.{◌≡◌, ◌+◌, ◌*◌, ◌<◌, ℤ, pos, ◌+ℤ◌, ◌*ℤ◌}
 use Rattle.jiff_core.specs.Calendar.{IsDate, days_from_civil}
 use Rattle.sig_der.specs.declared.moment.Moment.{Moment}
 
--- The calendar has the day, and the day the second; there are no leap seconds.
+-- The calendar has the day, and the day has the second; there are no leap seconds.
 pub record IsReal (m : Moment) : Type 0 where
   pub date : IsDate (pos m.year) (pos m.month) (pos m.day)
   pub hour : m.hour < 24

@@ -28,7 +28,7 @@ pub record IsRead (r : Reader) (x : Place × Reader) : Type 0 where
   pub place : IsWithin r.at r.end x.0
   pub next : GoesOn r x.0.end x.1
 
--- such an element, or none, and the reader where it was
+-- such an element, or `None` and the reader where it was
 abbrev pub IsReadIf : Reader → Option Place × Reader → Type 0
 IsReadIf r (Some p, next) = IsWithin r.at r.end p × GoesOn r p.end next
 IsReadIf r (None, next) = GoesOn r r.at next

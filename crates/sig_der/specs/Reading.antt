@@ -13,12 +13,12 @@ pub record Piece : Type 0 where
   pub whole : List ℕ
   pub content : List ℕ
 
--- What a call returned, seen by the view, is what reading gives. No memory is taken, so nothing else may come.
+-- The result of a call, seen by the view, is what reading gives. No memory is taken, so there is no other result.
 abbrev pub Gives : {X Y : Type 0} → (X → Y) → Result X DerError → Result Y DerError → Type 0
 Gives view result read = read ≡ result_map_both view (λ e. e) result
 
--- A length in one to four octets after the first, and what follows it. One that fewer octets hold is refused at the
--- octet that shows it.
+-- A length in one to four octets after the first, and what follows it. A length that fewer octets hold is rejected at
+-- the octet that shows it.
 unfoldable pub one_byte : List ℕ → Result (ℕ × List ℕ) DerError
 one_byte [] = Err Truncated
 one_byte (a ∷ rest) = if nat_lt a 128 then Err Length else Ok (a, rest)
@@ -73,8 +73,8 @@ unfoldable pub all_at : ℕ → List ℕ → Result Piece DerError
 all_at tag bytes = element_at bytes >>= λ x.
     if length x.1 == 0 then (if x.0.tag == tag then Ok x.0 else Err WrongTag) else Err Trailing
 
--- Why a text begins with no element: the first that shows of a long tag, a length that is indefinite, too long or not
--- in the fewest octets, and missing bytes.
+-- Why a text does not begin with an element: the first that shows of a long tag, a length that is indefinite, too long
+-- or not in the fewest octets, and missing bytes.
 abbrev pub is_zero_first : List ℕ → Bool
 is_zero_first [] = false
 is_zero_first (a ∷ rest) = a == 0

@@ -35,13 +35,13 @@ IsZone zulu = Unit {0}
 IsZone (ahead hours minutes) = (hours < 24) × (minutes < 60)
 IsZone (behind hours minutes) = (hours < 24) × (minutes < 60)
 
--- in seconds
+-- the offset in seconds
 abbrev pub offset_of : Zone → ℤ
 offset_of zulu = pos 0
 offset_of (ahead hours minutes) = pos (hours * 3600 + minutes * 60)
 offset_of (behind hours minutes) = neg_ℤ (pos (hours * 3600 + minutes * 60))
 
--- no text, or a point and one to nine digits
+-- nothing, or a point and one to nine digits
 pub data IsFraction : List ℕ → Type 0 where
   whole : IsFraction []
   part : (digits : List ℕ) → AllByRecursion (λ b. is_digit b ≡ true) digits → 1 ≤ length digits → length digits ≤ 9
@@ -75,7 +75,7 @@ abbrev pub after_digit : List ℕ → List ℕ
 after_digit [] = []
 after_digit (b ∷ text) = if is_digit b then text else b ∷ text
 
--- what follows the digits at the front, of which at most so many are skipped
+-- what follows the digits at the front, of which at most this number are skipped
 unfoldable pub after_digits : ℕ → List ℕ → List ℕ
 after_digits zero text = text
 after_digits (suc most) text = after_digits most (after_digit text)

@@ -13,11 +13,11 @@ is_from low high n = nat_lt n (high + 1) && nat_lt low (n + 1)
 unfoldable pub is_day : ℕ → ℕ → ℕ → Bool
 is_day year month day = nat_lt year 10000 && is_from 1 12 month && is_from 1 (days_in_month (pos year) month) day
 
--- and the day the second
+-- the day has the second
 unfoldable pub is_clock : ℕ → ℕ → ℕ → Bool
 is_clock hour minute second = nat_lt hour 24 && nat_lt minute 60 && nat_lt second 60
 
--- the second since 1970 in which the instant of a text lies; none where it is not a time text
+-- the second since 1970 in which the instant of a text lies; `None` if it is not a time text
 unfoldable pub second_in : List ℕ → Option ℤ
 second_in text = stamp_at text >>= λ stamp.
     if is_day stamp.0.year stamp.0.month stamp.0.day && is_clock stamp.0.hour stamp.0.minute stamp.0.second

@@ -44,7 +44,7 @@ pub struct KeyInfoPlaces {
     pub bits: usize,
 }
 
-/// Reads the AlgorithmIdentifier that is next. `None` if what is left begins with none.
+/// Reads the AlgorithmIdentifier that is next. `None` if what is left does not begin with one.
 pub fn read_algorithm(reader: Reader<'_>) -> Option<(AlgorithmPlaces, Reader<'_>)>
     // What is returned is an algorithm at the front.
     ensures found { IfSome result (λ x. IsFirstAlgorithm
@@ -64,7 +64,7 @@ pub fn read_algorithm(reader: Reader<'_>) -> Option<(AlgorithmPlaces, Reader<'_>
     cut_algorithm(reader)
 }
 
-/// What is left to read is bytes: a law, on which the clauses of both calls rest. It does nothing.
+/// What is left to read is bytes: a law that the clauses of both calls use. It does nothing.
 fn are_bytes(left: &[u8])
     ensures { (i : ℕ) → get_or left.now i 0 < 256 }
 {
@@ -107,8 +107,8 @@ fn at_most_one(reader: Reader<'_>) -> Option<Option<Place>>
     }
 }
 
-/// Returns where the bits begin of the BIT STRING without unused bits that is all that is left. `None` if it is not
-/// such BIT STRING.
+/// Returns where the bits begin of the BIT STRING without unused bits that is all that is left. `None` if what is left
+/// is not such a BIT STRING.
 #[tactic(auto, unfolding(crate::specs::KeyInfo::bits_of, crate::specs::KeyInfo::after_zero))]
 pub fn read_bits(reader: Reader<'_>) -> Option<usize>
     ensures cut { bits_of (left reader.entry) ≡ option_map (part_from reader.entry.bytes.now reader.entry.end) result }
@@ -122,7 +122,7 @@ pub fn read_bits(reader: Reader<'_>) -> Option<usize>
     }
 }
 
-/// Reads the SubjectPublicKeyInfo that is next. `None` if what is left begins with none.
+/// Reads the SubjectPublicKeyInfo that is next. `None` if what is left does not begin with one.
 pub fn read_key_info(reader: Reader<'_>) -> Option<(KeyInfoPlaces, Reader<'_>)>
     // What is returned is a SubjectPublicKeyInfo at the front.
     ensures found { IfSome result (λ x. IsFirstKeyInfo

@@ -6,7 +6,7 @@ ghost use Rattle.sig_der.specs.Moment.{IsReal, IsDecimal, second_of};
 
 use jiff_core::civil::Date;
 
-/// A date and a time of day, which the calendar may not have. Each number has as many digits as a text gives it: the
+/// A date and a time of day, which need not be in the calendar. Each number has as many digits as a text gives it: the
 /// year four, the others two.
 #[derive(Clone, Copy, Debug)]
 pub(crate) struct Moment {

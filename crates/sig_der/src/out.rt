@@ -24,7 +24,7 @@ impl Model for DerOut {
 }
 
 impl DerOut {
-    /// No content so far. Takes no memory.
+    /// Returns an element without content. Takes no memory.
     pub fn new(alloc: Global) -> DerOut
         ensures { result ≡ [] }
     {

@@ -83,7 +83,7 @@ impl<'a> Reader<'a> {
         }
     }
 
-    /// Reads the element that is next. `None` if what is left begins with no element.
+    /// Reads the element that is next. `None` if what is left does not begin with an element.
     pub fn any(self) -> Option<(Place, Reader<'a>)>
         ensures cut { take_any (left self.entry) ≡ option_map (piece_read self.entry.bytes.now) result }
         ensures within { IfSome result (IsRead self.entry) }
@@ -108,7 +108,7 @@ impl<'a> Reader<'a> {
         }
     }
 
-    /// Reads the element of this tag that is next. `None` if what is left begins with no such element.
+    /// Reads the element of this tag that is next. `None` if what is left does not begin with one.
     #[tactic(auto, unfolding(crate::specs::FrontReaders::take_tag))]
     pub fn tagged(self, tag: u8) -> Option<(Place, Reader<'a>)>
         ensures cut { take_tag tag (left self.entry) ≡ option_map (piece_read self.entry.bytes.now) result }
@@ -123,7 +123,7 @@ impl<'a> Reader<'a> {
     }
 
     /// Reads the element of this tag if the next byte is the tag. If it is another byte, or nothing is left, no
-    /// element is taken. `None` if the tag is there and no element begins with it.
+    /// element is taken. `None` if the tag is there but does not begin an element.
     #[tactic(auto, unfolding(crate::specs::FrontReaders::take_optional))]
     pub fn optional(self, tag: u8) -> Option<(Option<Place>, Reader<'a>)>
         ensures cut { take_optional tag (left self.entry) ≡ option_map (option_read self.entry.bytes.now) result }

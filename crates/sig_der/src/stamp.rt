@@ -139,7 +139,7 @@ fn read_offset(text: &[u8]) -> Option<u32>
     }
 }
 
-/// Returns the second that is so many seconds before the moment.
+/// Returns the second that is this number of seconds before the moment.
 fn second_before(moment: Moment, offset: i64) -> Option<i64>
     requires digits { IsDecimal moment }
     requires day { IsWithin 86400 offset }

@@ -1,4 +1,4 @@
-//! Elements from the front of bytes, for readers that do not say why there is none.
+//! Elements from the front of bytes, for readers that do not say why one is missing.
 
 ghost use Rattle.std.specs.Prelude.{◌≡◌, option_map};
 ghost use Rattle.sig_der.specs.BorrowedElements.{piece_of, front_of};

@@ -1,4 +1,4 @@
--- Tables that the value chooses: of lists of so many elements, and what may not be there beside another member.
+-- Tables that the value chooses: lists of a given length, and what may not be there beside another member.
 use Rattle.std.specs.Prelude.{ℕ, List, length, Bool, ◌&&◌, nat_le, Option, Some, None}
 use Rattle.sig_json.specs.Data.{Data}
 use Rattle.sig_json.specs.List.{list_of}
@@ -7,16 +7,16 @@ use Rattle.sig_table.specs.Table.{Table, leaf, elements, chosen}
 use Rattle.sig_table.specs.declared.fault.Cause.{Cause}
 use Rattle.sig_table.specs.declared.fault.Cause.TheVariants.{BeyondRange, NotAlone}
 
--- what is there is wrong by this cause, or has to keep to a table
+-- what is there is wrong for this cause, or has to keep to a table
 abbrev pub wrong_or : Table → Option Cause → Table
 wrong_or table None = table
 wrong_or table (Some cause) = leaf (λ _. Some cause)
 
--- a value that has first to be right itself, and then to keep to a table
+-- a value that first passes a test itself, and then keeps to a table
 abbrev pub guarded : (Data → Option Cause) → Table → Table
 guarded cause table = chosen (λ d. wrong_or table (cause d))
 
--- of a list, that it has not as many elements as a test allows
+-- a list does not have as many elements as a test allows
 abbrev pub length_cause : (ℕ → Bool) → Option (List Data) → Option Cause
 length_cause test None = None
 length_cause test (Some ds) = unless (test (length ds)) BeyondRange
@@ -31,6 +31,6 @@ sized test table = guarded (other_length test) (elements table)
 abbrev pub is_between : ℕ → ℕ → ℕ → Bool
 is_between least most n = nat_le least n && nat_le n most
 
--- no value: what may not be there beside another member
+-- the table that no value keeps to: what may not be there beside another member
 abbrev pub nothing_table : Table
 nothing_table = leaf (λ _. Some NotAlone)

@@ -12,7 +12,7 @@ use Rattle.sig_table.specs.Table.{Table, fits}
 use Rattle.sig_table.specs.declared.fault.DocumentFault.{DocumentFault}
 use Rattle.sig_table.specs.declared.fault.DocumentFault.TheVariants.{NotJson, Float, Member}
 
--- no tree, a float in it, or its first fault
+-- the text is not JSON, has a float, or breaks the table at its first fault
 abbrev pub fault_in_document : Table → Result Data DocumentError → Option DocumentFault
 fault_in_document table (Ok d) = option_map Member (fault_of table d)
 fault_in_document table (Err document.NotJson) = Some NotJson
@@ -24,14 +24,14 @@ fault_in table text = fault_in_document table (document_of text)
 
 -- ---- the same in words
 
--- of a tree, that it keeps to the table, or the first fault
+-- a tree keeps to the table, or this is its first fault
 abbrev pub IsMemberFaultOf : Table → Data → Option DocumentFault → Type 0
 IsMemberFaultOf table d None = IsTrue (fits table d)
 IsMemberFaultOf table d (Some NotJson) = ⊥
 IsMemberFaultOf table d (Some Float) = ⊥
 IsMemberFaultOf table d (Some (Member fault)) = IsFirstFault table d fault.path fault.cause
 
--- of a text that is not a document, why
+-- why a text is not a document
 abbrev pub IsFaultIn : Table → Result Data DocumentError → Option DocumentFault → Type 0
 IsFaultIn table (Ok d) found = IsMemberFaultOf table d found
 IsFaultIn table (Err document.NotJson) found = found ≡ Some NotJson

@@ -69,7 +69,7 @@ abbrev mutual
   row_fault (optional_row name table) d = at_name name (fault_there None (fault_of table) (member_in name d))
   row_fault (oneof_row names) d = oneof_fault false names d
 
--- the same of what a check fails with
+-- the same for the error of a check
 abbrev pub error_under : Step → TableError → TableError
 error_under step (Fault fault) = Fault (under step fault)
 error_under step OutOfMemory = OutOfMemory

@@ -20,7 +20,7 @@ Breaks = Data → List Step → Cause → Type 0
 abbrev pub After : Step → Breaks → Breaks
 After step Inside d path cause = (rest : List Step) × (path ≡ step ∷ rest) × Inside d rest cause
 
--- the value itself is wrong
+-- the value itself is wrong, and nothing inside it is named
 abbrev pub IsHere : Cause → List Step → Cause → Type 0
 IsHere why path cause = (path ≡ []) × (cause ≡ why)
 
@@ -34,7 +34,7 @@ pub record IsFirstElement (test : Data → Bool) (Inside : Breaks) (ds : List Da
   pub sound : AllByRecursion (λ d. IsTrue (test d)) before
   pub wrong : After (Index (length before)) Inside element path cause
 
--- of the members that are there, one is the second
+-- this member is the second of those that are there
 pub record IsSecond (there : List (List ℕ)) (path : List Step) (cause : Cause) : Type 0 where
   pub first : List ℕ
   pub second : List ℕ

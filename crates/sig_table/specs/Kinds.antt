@@ -8,16 +8,16 @@ use Rattle.sig_table.specs.Table.{Table, leaf, members, no_rows}
 use Rattle.sig_table.specs.declared.fault.Cause.{Cause}
 use Rattle.sig_table.specs.declared.fault.Cause.TheVariants.{BeyondRange, OtherKind}
 
--- a value that is read is sound, and any other is wrong by this cause
+-- a value that is read is sound, and any other is wrong for this cause
 abbrev pub unless : Bool → Cause → Option Cause
 unless true cause = None
 unless false cause = Some cause
 
--- a kind that has no range: what it does not read is of another kind
+-- a kind without a range: a value that it does not read is of another kind
 abbrev pub other_kind : {A : Type 0} → (Data → Option A) → Data → Option Cause
 other_kind kind d = unless (is_some (kind d)) OtherKind
 
--- of what a kind of integers does not read, an integer is beyond its range, and anything else is of another kind
+-- an integer that a kind of integers does not read is outside its range, and any other value is of another kind
 abbrev pub not_in_range : Option ℤ → Cause
 not_in_range None = OtherKind
 not_in_range (Some z) = BeyondRange

@@ -17,7 +17,7 @@ mutual
     elements : Table → Table
     -- an object whose members keep to these rows
     members : Rows → Table
-    -- what the value itself chooses, where a rule is over several of its members
+    -- a table that the value itself chooses, where a rule is over several of its members
     chosen : (Data → Table) → Table
 
   pub data Row : Type 0 where
@@ -58,7 +58,7 @@ abbrev pub at_most_one : {A : Type 0} → List A → Bool
 at_most_one [] = true
 at_most_one (x ∷ xs) = is_empty xs
 
--- what is there passes a test, and what is absent does as `absent` says
+-- a value that is there passes a test, and `absent` says whether an absent one does
 abbrev pub passes : Bool → (Data → Bool) → Option Data → Bool
 passes absent test None = absent
 passes absent test (Some d) = test d

@@ -11,7 +11,7 @@ pub enum Cause {
     OtherKind,
     /// The value is an integer outside the range of the kind, or a list of more or fewer elements than it may have.
     BeyondRange,
-    /// An earlier member is there beside which this one may not be.
+    /// An earlier member is there that excludes this one.
     NotAlone,
 }
 

@@ -29,7 +29,7 @@ pub fn optional_i64(alloc: Global, json: Json<'_, '_>, name: &str) -> Result<(),
     }
 }
 
-/// What the row of an integer returns whose member is this value, and is read or not.
+/// Returns the result of an integer's row for this value of its member, which is read or not.
 fn row_of(alloc: Global, name: &str, value: Json<'_, '_>, is_read: bool) -> Result<(), TableError>
     ensures { Answers TableError.OutOfMemory (λ x. x) result (or_fault (at_name name.now
         (option_map here (unless is_read (not_in_range (integer_of (tree value.entry))))))) }
@@ -83,8 +83,8 @@ fn all_digits(bytes: &[u8]) -> bool
     bytes.iter().all(|byte| byte.is_ascii_digit())
 }
 
-/// A required integer from -2^63 to 2^63 - 1: a member of an object. Fails with `Fault` if the member is absent, null, or
-/// not such an integer.
+/// A required integer from -2^63 to 2^63 - 1: a member of an object. Fails with `Fault` if the member is absent, null,
+/// or not such an integer.
 #[tactic(auto, using(crate::proofs::Integers::integers))]
 pub fn required_i64(alloc: Global, json: Json<'_, '_>, name: &str) -> Result<(), TableError>
     ensures { Answers TableError.OutOfMemory (λ x. x) result
@@ -96,8 +96,8 @@ pub fn required_i64(alloc: Global, json: Json<'_, '_>, name: &str) -> Result<(),
     }
 }
 
-/// A required integer from 0 to 2^64 - 1: a member of an object. Fails with `Fault` if the member is absent, null, or not
-/// such an integer.
+/// A required integer from 0 to 2^64 - 1: a member of an object. Fails with `Fault` if the member is absent, null, or
+/// not such an integer.
 #[tactic(auto, using(crate::proofs::Integers::integers))]
 pub fn required_u64(alloc: Global, json: Json<'_, '_>, name: &str) -> Result<(), TableError>
     ensures { Answers TableError.OutOfMemory (λ x. x) result
@@ -109,8 +109,8 @@ pub fn required_u64(alloc: Global, json: Json<'_, '_>, name: &str) -> Result<(),
     }
 }
 
-/// A required integer from 0 to below `end`: a member of an object. Fails with `Fault` if the member is absent, null, or
-/// not such an integer.
+/// A required integer from 0 to below `end`: a member of an object. Fails with `Fault` if the member is absent, null,
+/// or not such an integer.
 pub fn required_below(
     alloc: Global,
     json: Json<'_, '_>,

@@ -1,4 +1,4 @@
-//! What the first fault of a tree is, in the subject's words. It has no code.
+//! What the first fault of a tree is, in the subject's words. There is no code here.
 ghost use Rattle.std.specs.Prelude.{◌≡◌, ◌↔◌, Some, None, IsTrue};
 ghost use Rattle.sig_json.specs.Data.{Data};
 ghost use Rattle.sig_table.specs.Fault.{fault_of};
@@ -7,7 +7,7 @@ ghost use Rattle.sig_table.specs.Table.{Table, fits};
 ghost use Rattle.sig_table.specs.declared.fault.MemberFault.{MemberFault};
 
 /// No fault is found if and only if the tree keeps to the table. A fault is found if and only if it is the first: the
-/// rows before it hold, it breaks its own, and inside it likewise. So no tree has two.
+/// rows before it hold, its own row does not, and inside its member likewise. So no tree has two.
 pub fn first_faults()
     ensures none { (t : Table) (d : Data) → (fault_of t d ≡ None) ↔ IsTrue (fits t d) }
     ensures first { (t : Table) (d : Data) (fault : MemberFault)

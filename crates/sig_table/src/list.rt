@@ -38,8 +38,8 @@ impl<T: MemberTable> MemberTable for ListOf<T> {
     }
 }
 
-/// Fails with `Fault` if the value is a list of fewer or more elements than these. The check of a list of so many begins
-/// with this one.
+/// Fails with `Fault` if the value is a list of fewer or more elements than these. The check of a list of a given
+/// length begins with this one.
 pub fn length_between(
     alloc: Global,
     json: Json<'_, '_>,
@@ -55,7 +55,8 @@ pub fn length_between(
     }
 }
 
-/// Fails with `Fault` if the value is a list without elements. The check of a list of at least one begins with this one.
+/// Fails with `Fault` if the value is a list without elements. The check of a list of at least one begins with this
+/// one.
 pub fn not_empty(alloc: Global, json: Json<'_, '_>) -> Result<(), TableError>
     ensures { Answers TableError.OutOfMemory (λ x. x) result
         (or_fault (option_map here (other_length (nat_lt 0) (tree json.entry)))) }

@@ -18,13 +18,13 @@ pub trait MemberTable {
     // The table as data.
     ghost table: { Table };
 
-    /// Checks a value. Fails with `Fault` if and only if it breaks the table: the first member that does, in the order of
-    /// the table.
+    /// Checks a value. Fails with `Fault` if and only if it breaks the table: the first member that does, in the order
+    /// of the table.
     fn check(alloc: Global, json: Json<'_, '_>) -> Result<(), TableError>
         ensures { Answers TableError.OutOfMemory (λ x. x) result (or_fault (fault_of table (tree json.entry))) };
 }
 
-/// What a check fails with where the value itself is wrong, and nothing inside it. It takes no memory.
+/// Returns the error of a check where the value itself is wrong, and nothing inside it. It takes no memory.
 pub fn fault_here(alloc: Global, cause: Cause) -> TableError
     ensures { result ≡ TableError.Fault (here cause) }
 {
@@ -34,7 +34,7 @@ pub fn fault_here(alloc: Global, cause: Cause) -> TableError
     })
 }
 
-/// What the check of an object fails with where that of the member of this name fails so.
+/// Returns the error of an object's check from that of the check of its member of this name.
 pub fn after_name(alloc: Global, name: &str, error: TableError) -> TableError
     ensures { OrMemory TableError.OutOfMemory result (result ≡ error_under (Name name.now) error) }
 {
@@ -57,7 +57,7 @@ fn after(error: TableError, step: Step) -> TableError
     }
 }
 
-/// What the check of a list fails with where that of the element at this index fails so.
+/// Returns the error of a list's check from that of the check of its element at this index.
 pub fn after_index(index: usize, error: TableError) -> TableError
     ensures { OrMemory TableError.OutOfMemory result (result ≡ error_under (Index index) error) }
 {
