@@ -7,7 +7,7 @@ use Rattle.sig_certificate.specs.Names.{Name, Email, Uri, Other, Unread}
 use Rattle.sig_der.specs.Tag.{OBJECT_IDENTIFIER, OTHER_NAME, OTHER_NAME_VALUE, RFC822_NAME, SEQUENCE}
 use Rattle.sig_der.specs.Tag.{UNIFORM_RESOURCE_IDENTIFIER, context, constructed_context}
 
--- otherName: an object identifier that is not empty, and an explicit element of any tag
+-- otherName has an object identifier that is not empty, and an explicit element of any tag
 pub record IsOtherName (content kind value : List ℕ) : Type 0 where
   pub kind_text : List ℕ
   pub explicit_text : List ℕ
@@ -25,7 +25,7 @@ pub record IsContext (tag : ℕ) : Type 0 where
   pub known : number < 9
   pub is : (tag ≡ context number) ⊎ (tag ≡ constructed_context number)
 
--- What the name of a tag and a content says: rfc822Name, uniformResourceIdentifier, otherName; and of the other forms
+-- What the name of a tag and a content says: rfc822Name, uniformResourceIdentifier, otherName; and for the other forms
 -- nothing.
 abbrev pub IsName : ℕ → List ℕ → Name → Type 0
 IsName tag content (Email text) = (tag ≡ RFC822_NAME) × (text ≡ content) × IsAscii content

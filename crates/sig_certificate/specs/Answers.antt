@@ -1,4 +1,4 @@
--- What a reader that may run out of memory fails with; its results are told by sig_base's `Answers`.
+-- What a reader that may run out of memory fails with; sig_base's `Answers` defines its results.
 use Rattle.std.specs.Prelude.{Option, Some, None, Result, Ok, Err}
 use Rattle.sig_certificate.specs.declared.error.X509ReadError.{X509ReadError}
 use Rattle.sig_certificate.specs.declared.error.X509ReadError.TheVariants.{Der}

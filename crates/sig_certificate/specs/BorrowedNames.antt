@@ -17,8 +17,8 @@ abbrev pub then_names : (List ℕ → List Name) → Option (Name × List ℕ) �
 then_names go None = []
 then_names go (Some x) = x.0 ∷ go x.1
 
--- The names at the front of the bytes, one after another, up to the first that is none. The number bounds the
--- readings; as many as there are bytes suffice.
+-- The names at the front of the bytes, one after another, up to the first element that is not a name. The number bounds
+-- the readings; the number of bytes suffices.
 unfoldable pub front_names_within : ℕ → List ℕ → List Name
 front_names_within zero bytes = []
 front_names_within (suc n) bytes = then_names (front_names_within n) (name_at bytes)

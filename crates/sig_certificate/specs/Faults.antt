@@ -1,5 +1,5 @@
--- Where each fault of a certificate's profiles and of its trust comes: the rules before it hold, and its own does not.
--- The rules are told in the words of RFC 5280.
+-- Where each fault of a certificate's profiles and of its trust comes: the rules before it hold, and its own does not
+-- hold. The rules are in the words of RFC 5280.
 use Rattle.std.specs.Prelude.{◌≡◌, ◌≢◌, ◌⊎◌, ℕ, ◌≤◌, ℤ, ◌<ℤ◌, ◌≤ℤ◌, List, [], ◌∷◌, length, Bool, true, false, Option}
 use Rattle.std.specs.Prelude.{Some, None}
 use Rattle.sig_base.specs.declared.error.SigstoreError.{SigstoreError}
@@ -153,7 +153,7 @@ pub data IsUsagesFault : Cert → SigstoreError → Type 0 where
 pub data IsNamesFault : Cert → SigstoreError → Type 0 where
   unnamed : {c : Cert} → ¬ IsNamed c → IsNamesFault c CertificateWithoutSubjectAlternativeName
 
--- by now, the validity has not begun
+-- the validity has not begun at this time
 pub data IsValidityFault : Cert → ℤ → SigstoreError → Type 0 where
   not_begun : {c : Cert} {now : ℤ} → now <ℤ c.not_before
       → IsValidityFault c now (CertificateValidityError c.not_before)

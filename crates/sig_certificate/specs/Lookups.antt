@@ -29,7 +29,7 @@ are_distinct (x ∷ xs) = not (list_any (bytes_eq x) xs) && are_distinct xs
 abbrev pub are_single : List Extension → Bool
 are_single es = are_distinct (oids es)
 
--- none, the only one, or two and more
+-- no extension of the object identifier, the only one, or two or more
 abbrev pub Finds : List Extension → Lookup → Type 0
 Finds es Absent = es ≡ []
 Finds es (One r) = es ≡ borrowed_extension r ∷ []

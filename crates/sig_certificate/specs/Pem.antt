@@ -4,7 +4,7 @@ use Rattle.base64.specs.Engines.{standard}
 use Rattle.base64.specs.GeneralPurpose.{encode_of}
 
 -- The lines of the base64 text, each ended by a newline. Three bytes make four characters, so a full line of 64
--- characters is 48 bytes, and only the last line may be shorter. As many lines as there are bytes suffice.
+-- characters is 48 bytes, and only the last line may be shorter. The number of bytes bounds the lines.
 unfoldable pub lines_within : ℕ → List ℕ → List ℕ
 lines_within n [] = []
 lines_within zero (b ∷ bytes) = []
@@ -20,7 +20,7 @@ border word = codes "-----" ++ word ++ codes " CERTIFICATE-----" ++ 10 ∷ []
 abbrev pub pem_of : List ℕ → List ℕ
 pem_of der = border (codes "BEGIN") ++ lines_of der ++ border (codes "END")
 
--- ---- the lines by RFC 7468 section 2: exactly 64 characters a line, and in the last what is left
+-- ---- the lines by RFC 7468 section 2: exactly 64 characters a line, and the rest in the last
 
 abbrev pub IsWrapped : List (List ℕ) → Type 0
 IsWrapped [] = Unit {0}

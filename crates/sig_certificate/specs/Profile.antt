@@ -28,7 +28,7 @@ abbrev pub error_of : {X E : Type 0} → Result X E → Option E
 error_of (Ok x) = None
 error_of (Err e) = Some e
 
--- What the extensions of one object identifier say: nothing where there is none, what the reader makes of the only
+-- What the extensions of one object identifier say: nothing where there is none, what the reader returns for the only
 -- one, and that they are malformed where it makes nothing of it, or where there are several.
 abbrev pub Held : Type 0 → Type 0
 Held A = Result (Option A) CertificateValidationError

@@ -45,7 +45,7 @@ impl Model for Certificate {
 impl Certificate {
     /// Reads the certificate that the bytes are: one SEQUENCE of the TBSCertificate, an algorithm and the bits of the
     /// signature, and nothing after it (RFC 5280 section 4.1). Two extensions may have one object identifier:
-    /// `are_single` tells.
+    /// `are_single` says.
     ///
     /// Fails with
     /// - `Der` if and only if the bytes are not a certificate;
@@ -209,7 +209,7 @@ impl Certificate {
     }
 
     /// Returns the extension at this index, counted from 0 in the order of the certificate. `None` if and only if the
-    /// certificate has no more than so many.
+    /// certificate does not have more than `index`.
     pub fn extension_at(&self, index: usize) -> Option<ExtensionRef<'_>>
         ensures found { option_map borrowed_extension result ≡ slice_get self.now.extensions index }
         ensures none { (result ≡ None) ↔ (length self.now.extensions ≤ index) }

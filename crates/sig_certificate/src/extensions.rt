@@ -24,7 +24,7 @@ pub(crate) struct ExtensionPlaces {
     pub(crate) whole: Span,
 }
 
-/// Reads the extension that is next. `None` if what is left begins with none.
+/// Reads the extension that is next. `None` if what is left does not begin with one.
 #[tactic(auto, unfolding(crate::specs::Cutting::extension_at))]
 pub(crate) fn read_extension(reader: Reader<'_>) -> Option<(ExtensionPlaces, Reader<'_>)>
     ensures cut { extension_at (left reader.entry) ≡ option_map (extension_read reader.entry.bytes.now) result }

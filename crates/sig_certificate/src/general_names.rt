@@ -38,7 +38,7 @@ fn step(rest: &[u8]) -> Option<(GeneralName<'_>, &[u8])>
         (front_names rest.now ≡ [])
         (λ x. front_names rest.now ≡ borrowed_name x.0 ∷ front_names x.1.now) }
 {
-    // Each arm has its own law of the names at the front.
+    // The law of the names at the front differs in each arm.
     match name_at(rest) {
         None => None,
         Some((name, after)) => Some((name, after)),

@@ -26,13 +26,13 @@ pub struct ExtensionRef<'a> {
 pub enum Lookup<'a> {
     /// There is none.
     Absent,
-    /// There is this one alone.
+    /// This is the only one.
     One(ExtensionRef<'a>),
     /// There are two or more.
     Several,
 }
 
-/// Returns the extension at this index, if there are more than so many.
+/// Returns the extension at this index, or `None` if the index is not below the length.
 pub(crate) fn lend_at<'a>(
     bytes: &'a [u8],
     extensions: &[ExtensionPlaces],

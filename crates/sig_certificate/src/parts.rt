@@ -1,6 +1,6 @@
-//! A certificate read from its DER, field after field: RFC 5280 section 4.1, without what its extensions are. What is
-//! kept are the ranges of its parts. Beside each field is the function that reads it; those of the TBSCertificate have
-//! at most five steps each.
+//! A certificate read from its DER, field after field: RFC 5280 section 4.1, without the list of its extensions. What
+//! is kept are the ranges of its parts. Beside each field is the function that reads it; those of the TBSCertificate
+//! have at most five steps each.
 //!
 //! ```text
 //! Certificate ::= SEQUENCE {                                      -- read_certificate
@@ -82,8 +82,7 @@ pub(crate) fn parts_of(der: &[u8]) -> Option<Places>
     read_certificate(Reader::new(der))
 }
 
-/// Reads the parts of the certificate that is all that is left, except for what its extensions are. `None` if it is
-/// none.
+/// Reads the parts of the certificate that is all that is left, except its list of extensions. `None` if it is not one.
 #[tactic(auto, unfolding(crate::specs::Cutting::parts_at), using(crate::proofs::Fronts::front_is))]
 fn read_certificate(reader: Reader<'_>) -> Option<Places>
     ensures cut { parts_at (left reader.entry) ≡ option_map (parts_of reader.entry.bytes.now) result }

@@ -14,7 +14,7 @@ const LINE: usize = 48;
 
 /// Returns the text of the certificate of these bytes: a line `-----BEGIN CERTIFICATE-----`, the standard base64 of
 /// the bytes in lines of 64 characters, and a line `-----END CERTIFICATE-----`, each ended by a newline. Fails only if
-/// memory runs out. Whether the bytes are a certificate is not asked.
+/// memory runs out. It does not check that the bytes are a certificate.
 pub fn der_to_pem(alloc: Global, der: &[u8]) -> Result<Text, OutOfMemory>
     ensures { IfOk result (λ t. t ≡ pem_of der.now) }
 {

@@ -38,7 +38,7 @@ pub fn basic_constraints(
 /// - `VersionUnsupported`: the version is not 3;
 /// - `Malformed`, `Missing`, `NotCritical`: basic constraints are malformed or duplicate, absent, or not critical;
 /// - `Malformed`, `Missing`: key usage is malformed or duplicate, or absent;
-/// - `NotCA`: neither cA nor keyCertSign is set; `Invalid`: one alone is.
+/// - `NotCA`: neither cA nor keyCertSign is set; `Invalid`: only one of them is.
 pub fn is_ca(certificate: &Certificate) -> Result<(), CertificateValidationError>
     // It is an authority.
     ensures authority { (result ≡ Ok tt) ↔ IsAuthority certificate.now }

@@ -105,7 +105,7 @@ fn is_named(certificate: &Certificate) -> bool
 }
 
 /// Whether the validity has begun by now, in seconds since 1970. Fails with `CertificateValidityError` and its first
-/// second if it has not.
+/// second if it does not.
 pub fn verify_validity(certificate: &Certificate, now: i64) -> Result<()>
     // The validity has begun.
     ensures passes { (result ≡ Ok tt) ↔ (certificate.now.not_before ≤ℤ now) }

@@ -19,7 +19,7 @@ use sig_der::{Reader, tag, take_tag, take_whole};
 /// The bits of a key usage that decide here: RFC 5280 section 4.2.1.3.
 #[derive(Clone, Copy, Debug)]
 pub struct KeyUsage {
-    /// The key may sign what is neither a certificate nor a revocation list.
+    /// digitalSignature: the key may sign anything except certificates and revocation lists.
     pub digital_signature: bool,
     /// The key may sign certificates.
     pub key_cert_sign: bool,

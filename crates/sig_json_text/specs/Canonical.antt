@@ -55,7 +55,7 @@ in_brackets texts = codes "[" ++ (join_by (λ text. text) (codes ",") texts ++ c
 abbrev pub in_braces : List (List ℕ) → List ℕ
 in_braces texts = codes "{" ++ (join_by (λ text. text) (codes ",") texts ++ codes "}")
 
--- section 3.2: no white space; none where an integer of the tree is beyond plus or minus 2^53 - 1
+-- section 3.2: no white space; `None` if an integer of the tree is outside plus or minus 2^53 - 1
 abbrev mutual
   pub canon : Data → Option (List ℕ)
   canon null = Some (codes "null")

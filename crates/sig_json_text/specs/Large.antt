@@ -1,4 +1,4 @@
--- *Large integers*: an integer beyond plus or minus 2^53 - 1, which a number of 64 bits (IEEE 754) no longer keeps
+-- *Large integers*: an integer outside plus or minus 2^53 - 1, which a number of 64 bits (IEEE 754) no longer keeps
 -- apart from its neighbours (RFC 8785 section 3.2.2.3).
 use Rattle.std.specs.Prelude.{ℤ, pos, ◌-◌, ◌^◌, ◌||◌, Bool, false, nat_lt, unsigned_abs}
 use Rattle.serde_json.specs.Data.{Num, unsigned, negative, float, Data, null, boolean, number, string, array, object}

@@ -9,7 +9,7 @@ use Rattle.serde_json.specs.Data.{Data, null, boolean, number, string, array, ob
 use Rattle.serde_json.specs.Data.{no_members, member}
 use Rattle.sig_json_text.specs.Canonical.{Sorted, canon, canon_string, in_braces, in_brackets, utf16_units}
 
--- the units of each member's name and its text, in the order of the members; none where some value has no canonical
+-- the units of each member's name and its text, in the order of the members; `None` if some value has no canonical
 -- text
 abbrev pub member_texts : Members → Option Sorted
 member_texts no_members = Some []

@@ -12,7 +12,7 @@ use Rattle.sig_json_text.specs.declared.named_member.Member.{Member}
 use Rattle.sig_json_text.specs.declared.error.CanonicalError.{CanonicalError}
 use Rattle.sig_json_text.specs.declared.error.CanonicalError.TheVariants.{IntegerTooLarge}
 
--- the part that is meant comes after the text before, and `IntegerTooLarge` where there is none, unless memory ran out
+-- the given part is appended to the text, or `IntegerTooLarge` is returned if it is `None`, unless memory ran out
 abbrev pub WritesPart : {X : Type 0} → List ℕ → Result X CanonicalError → List ℕ → Option (List ℕ) → Type 0
 WritesPart before (Ok x) after meant = option_map (λ text. before ++ text) meant ≡ Some after
 WritesPart before (Err e) after meant = e ≡ IntegerTooLarge → meant ≡ None
@@ -37,7 +37,7 @@ abbrev pub by_units : Members → ByUnits → ByUnits
 by_units no_members sorted = sorted
 by_units (member name d ms) sorted = by_units ms (insert_entry (slice_cmp nat_cmp) sorted (utf16_units name) (name, d))
 
--- none where the value has no canonical text
+-- `None` if the value has no canonical text
 abbrev pub member_text : Pair → Option (List ℕ)
 member_text m = canon m.1 >>= λ text. Some (canon_string m.0 ++ (codes ":" ++ text))
 

@@ -28,7 +28,7 @@ const GREATEST_INTEGER: u128 = 9_007_199_254_740_991;
 
 /// The canonical text of a value (RFC 8785): the members of each object in the order of the UTF-16 code units of their
 /// names, no white space, the shortest escapes. Fails with `IntegerTooLarge` if and only if the value holds an integer
-/// beyond plus or minus 2^53 - 1, at any depth (`laws::large_integers`).
+/// outside plus or minus 2^53 - 1, at any depth (`laws::large_integers`).
 #[tactic(auto, using(crate::proofs::LargeIntegers::large_integers))]
 pub fn canonical(alloc: Global, json: Json<'_, '_>) -> Result<Text, CanonicalError>
     ensures answer { Answers CanonicalError.OutOfMemory (λ text. text) result (canonical_of (tree json.entry)) }
@@ -124,7 +124,7 @@ fn write_list(alloc: Global, items: &Vec<Tree<'_>>, out: &mut String) -> Result<
     write_text(out, "]")
 }
 
-/// The comma before a part of a list or an object, none before the first.
+/// Adds the comma before a part of a list or an object, except the first.
 fn write_comma(out: &mut String, place: usize) -> Result<(), CanonicalError>
     ensures written { OnOk result (string_bytes out.new ≡ string_bytes out.old ++ comma_before place) }
     ensures memory { IfErr result (λ e. e ≡ CanonicalError.OutOfMemory) }

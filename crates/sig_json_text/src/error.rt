@@ -5,7 +5,7 @@ use thiserror::Error;
 /// Why a tree has no canonical text.
 #[derive(Clone, Copy, Debug, PartialEq, Eq, Error)]
 pub enum CanonicalError {
-    /// An integer is beyond plus or minus 2^53 - 1.
+    /// An integer is outside plus or minus 2^53 - 1.
     #[error("IntegerTooLarge")]
     IntegerTooLarge,
     /// Out of memory.

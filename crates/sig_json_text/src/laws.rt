@@ -18,7 +18,7 @@ pub fn units_of_texts()
 {}
 
 /// The members of an object come in the ascending order of the UTF-16 code units of their names, each once and no
-/// others (RFC 8785 section 3.2.3), where the names are texts and none is there twice, as in a map from strings in
+/// others (RFC 8785 section 3.2.3), where the names are texts and no name is there twice, as in a map from strings in
 /// byte order.
 pub fn members_in_order()
     ensures object { (ms : Members) → HasNames ms → (text : List ℕ)
@@ -30,7 +30,7 @@ pub fn members_in_order()
         → canon_members ms [] ≡ Some sorted → UnitsAscend sorted }
 {}
 
-/// A tree without floats has no canonical text if and only if it holds an integer beyond plus or minus 2^53 - 1, at
+/// A tree without floats has no canonical text if and only if it holds an integer outside plus or minus 2^53 - 1, at
 /// any depth.
 pub fn large_integers()
     ensures exact { (d : Data) → has_float d ≡ false

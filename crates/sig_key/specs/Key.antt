@@ -25,7 +25,7 @@ key_info (key.ECDSA_P384_SHA384_ASN1 spki) = spki
 key_info (key.ECDSA_P521_SHA512_ASN1 spki) = spki
 key_info (key.ED25519 spki) = spki
 
--- what a checker accepts of a key: messages and signatures. The first argument is the checker's predicate
+-- the messages and signatures that a checker accepts for a key. The first argument is the checker's predicate
 abbrev pub key_accepts : (VerifyScheme → List ℕ → List ℕ → List ℕ → Bool) → CosignVerificationKey → List ℕ → List ℕ
     → Bool
 key_accepts accepts key message signature = accepts (key_scheme key) (key_info key) message signature

@@ -30,7 +30,7 @@ abbrev pub parameters_scheme : Option Piece → Option VerifyScheme
 parameters_scheme None = None
 parameters_scheme (Some p) = if p.tag == OBJECT_IDENTIFIER then curve_scheme p.content else None
 
--- the scheme by an object identifier and parameters; RSA and Ed25519 have any parameters or none
+-- the scheme by an object identifier and parameters; RSA and Ed25519 have any parameters, or no parameters
 abbrev pub scheme_by : List ℕ → Option Piece → Option VerifyScheme
 scheme_by oid parameters =
     if bytes_eq oid ec_public_key then parameters_scheme parameters
@@ -45,7 +45,7 @@ abbrev pub kind_of_scheme : Option VerifyScheme → KeyKind
 kind_of_scheme None = Unsupported
 kind_of_scheme (Some s) = Scheme s
 
--- the bytes are an SPKI of this kind, or none
+-- the bytes are an SPKI of this kind, or not an SPKI
 pub record IsKeyInfoOf (spki : List ℕ) (found : Option VerifyScheme) : Type 0 where
   pub info : KeyInfo
   pub is : IsKeyInfo info

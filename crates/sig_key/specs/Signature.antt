@@ -1,4 +1,4 @@
--- The bytes of a signature that is handed as bytes or as base64 text.
+-- The bytes of a signature that is given as bytes or as base64 text.
 use Rattle.std.specs.Prelude.{◌≡◌, ◌⊎◌, ℕ, Bool, not, ◌||◌, ◌==◌, List, [], ◌∷◌, filter, Option, Some, None}
 use Rattle.sig_base.specs.Base64.{base64_bytes}
 use Rattle.sig_base.specs.ByteLists.{AreBytes}
@@ -21,7 +21,7 @@ IsInLines letters (byte ∷ text) =
 abbrev pub IsTextOf : List ℕ → List ℕ → Type 0
 IsTextOf text bytes = (letters : List ℕ) × (IsInLines letters text × (base64_bytes letters ≡ Some bytes))
 
--- *Signature text*: the signature is handed as these bytes, or as a text of them
+-- *Signature text*: the signature is given as these bytes, or as a text of them
 abbrev pub HasBytes : Signature → List ℕ → Type 0
 HasBytes (Raw raw) bytes = raw.now ≡ bytes
 HasBytes (Base64Encoded text) bytes = IsTextOf text.now bytes
@@ -49,7 +49,7 @@ abbrev pub IsOfBytes : Signature → Type 0
 IsOfBytes (Raw _) = Unit {0}
 IsOfBytes (Base64Encoded text) = AreBytes text.now
 
--- it is handed as bytes
+-- it is given as bytes
 abbrev pub IsRaw : Signature → Type 0
 IsRaw (Raw _) = Unit {0}
 IsRaw (Base64Encoded _) = ⊥

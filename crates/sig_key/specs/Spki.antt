@@ -1,4 +1,4 @@
--- *Supported key*: of which scheme the key of a SubjectPublicKeyInfo is, by its algorithm, its parameters and its curve.
+-- *Supported key*: the scheme of the key of a SubjectPublicKeyInfo, by its algorithm, its parameters and its curve.
 use Rattle.std.specs.Prelude.{◌≡◌, ◌≢◌, ℕ, List, Some}
 use Rattle.sig_base.specs.declared.scheme.VerifyScheme.{VerifyScheme}
 use Rattle.sig_base.specs.declared.scheme.VerifyScheme.TheVariants as scheme
@@ -15,8 +15,8 @@ pub record IsOnCurve (curve : List ℕ) (a : Algorithm) : Type 0 where
   pub identifier : parameters.tag ≡ OBJECT_IDENTIFIER
   pub named : parameters.content ≡ curve
 
--- The algorithm is that of the scheme's keys. RSA and Ed25519 have any parameters or none; no algorithm is that of the
--- scheme RSASSA-PSS, since rsaEncryption is read as PKCS #1.
+-- The algorithm is that of the scheme's keys. RSA and Ed25519 have any parameters, or no parameters; no algorithm is
+-- that of the scheme RSASSA-PSS, since rsaEncryption is read as PKCS #1.
 abbrev pub IsAlgorithmFor : VerifyScheme → Algorithm → Type 0
 IsAlgorithmFor scheme.ECDSA_P256_SHA256_ASN1 a = IsOnCurve p256 a
 IsAlgorithmFor scheme.ECDSA_P384_SHA384_ASN1 a = IsOnCurve p384 a
@@ -47,6 +47,6 @@ pub record IsUnsupported (spki : List ℕ) : Type 0 where
   pub whole : info.whole ≡ spki
   pub other : IsOther info.algorithm
 
--- They are none.
+-- The bytes are not an SPKI.
 abbrev pub IsNoKeyInfo : List ℕ → Type 0
 IsNoKeyInfo spki = (info : KeyInfo) → IsKeyInfo info → info.whole ≢ spki

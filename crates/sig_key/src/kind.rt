@@ -21,10 +21,10 @@ pub enum KeyKind {
 }
 
 /// Returns the kind of key that the bytes are: a SubjectPublicKeyInfo with an elliptic curve key on P-256, P-384 or
-/// P-521, with an RSA key or with an Ed25519 key, the last two with any parameters or none; another
-/// SubjectPublicKeyInfo; or none at all. Takes no memory.
+/// P-521, with an RSA key or with an Ed25519 key, the last two with or without parameters; another
+/// SubjectPublicKeyInfo; or not an SPKI at all. Takes no memory.
 pub fn key_kind(spki: &[u8]) -> KeyKind
-    // The kind that the definition gives, and no other.
+    // The kind is that of the definition.
     ensures is { IsKind spki.now result }
     ensures only { (kind : Kind) → IsKind spki.now kind → kind ≡ result }
     // What the plain reader returns.

@@ -27,7 +27,7 @@ impl<'a> Signature<'a> {
     /// - `Base64DecodeError`: neither is strict base64;
     /// - `OutOfMemory`.
     pub fn decode_bytes(&self, alloc: Global) -> Result<Bytes>
-        // It is handed as these bytes, or as their base64 with any line feeds and carriage returns in it.
+        // It is given as these bytes, or as their base64 with any line feeds and carriage returns in it.
         ensures found { (bytes : List ℕ) → ComesWhere Memory result (Ok bytes) (HasBytes self.now bytes) }
         ensures undecodable { ComesWhere Memory result (Err Base64DecodeError)
             ((bytes : List ℕ) → ¬ HasBytes self.now bytes) }

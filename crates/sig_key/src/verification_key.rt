@@ -169,7 +169,7 @@ impl CosignVerificationKey {
     /// [`CosignVerificationKey::verify_prehash`] takes its digest. Errors:
     /// - `Base64DecodeError`: the signature's text has no bytes, as [`Signature::decode_bytes`] says;
     /// - `PublicKeyVerificationError`: the checker does not accept them;
-    /// - `OutOfMemory`, of a text alone.
+    /// - `OutOfMemory`, only for a text.
     pub fn verify_signature<C: SignatureChecker>(
         &self,
         alloc: Global,
@@ -197,7 +197,7 @@ impl CosignVerificationKey {
     /// place, without memory. Errors:
     /// - `Base64DecodeError`: the signature's text has no bytes, as [`Signature::decode_bytes`] says;
     /// - `PublicKeyVerificationError`: the checker does not accept them;
-    /// - `OutOfMemory`, of a text alone.
+    /// - `OutOfMemory`, only for a text.
     pub fn verify_prehash<C: SignatureChecker>(
         &self,
         alloc: Global,

@@ -3,7 +3,7 @@
 -- that of a half which is not entered: of the right half, where the first m leaves are within the
 -- left, and else of the left half, which both trees have. The hashes before it are the proof within
 -- the other half. `known` is the flag of the standard's SUBPROOF: the root of the m leaves, `old`,
--- is the one that the proof was asked for, so the proof does not repeat it.
+-- is the one that the proof is requested for, so the proof does not repeat it.
 --
 -- As `root`, these go down by levels. The law `consistency_roots` states the standard's own recursion.
 use Rattle.std.specs.Prelude.{ℕ, zero, suc, ◌+◌, ◌-◌, ◌^◌, Bool, true, false, List, [], ◌∷◌, reverse, nat_eq, nat_lt}
@@ -47,7 +47,7 @@ roots_at (suc level) old_size size known old hashes =
     else with_beside hashes (λ rest. roots_at level (old_size - 2 ^ level) (size - 2 ^ level) false old rest))
     else roots_at level old_size size known old hashes)
 
--- the old and the new root that a proof leads to; none where the number of its hashes does not fit
+-- the old and the new root that a proof leads to; `None` if the number of its hashes does not fit
 unfoldable pub roots_of : ℕ → ℕ → Bool → List ℕ → List (List ℕ) → Option (List ℕ × List ℕ)
 roots_of old_size size known old hashes = roots_at size old_size size known old (reverse hashes)
 

@@ -19,7 +19,7 @@ abbrev pub LeadsTo : ℕ → ℕ → List ℕ → List (List ℕ) → List ℕ �
 LeadsTo old_size new_size old hashes led_old led_new =
     HasGrown old_size new_size × (roots_of old_size new_size true old hashes ≡ Some (led_old, led_new))
 
--- the sizes are equal: nothing is left to prove, so there is no hash
+-- the sizes are equal: nothing is left to prove, so the proof has no hash
 abbrev pub IsSameTree : ℕ → ℕ → List (List ℕ) → Type 0
 IsSameTree old_size new_size hashes = (old_size ≡ new_size) × (hashes ≡ [])
 
@@ -103,7 +103,7 @@ IsConsistencyAnswer old_size new_size hashes old new (Err (MismatchedRoot expect
 IsConsistencyAnswer old_size new_size hashes old new (Err IndexGtTreeSize) = ⊥
 
 -- how many pairs of children a consistency check hashes at most: two for each hash of a proof whose
--- roots were compared, and none where it refuses otherwise
+-- roots were compared, and `None` if it fails otherwise
 abbrev pub most_steps : Result (Unit {0}) MerkleProofError → ℕ → ℕ
 most_steps (Ok _) count = 2 * count
 most_steps (Err (MismatchedRoot _ _)) count = 2 * count

@@ -1,7 +1,7 @@
 -- The consistency proof between the first m entries of a list and all of them, 0 < m: PROOF and
 -- SUBPROOF of RFC 6962 section 2.1.2. It has the hashes of the halves that are not entered, the
 -- smallest one first, and before them the root of the tree that both have, unless `known` says that
--- the proof was asked for that tree.
+-- the proof is requested for that tree.
 --
 -- As `root`, this goes down by levels. The law `consistency_proofs` states the standard's own recursion.
 use Rattle.std.specs.Prelude.{ℕ, zero, suc, ◌-◌, ◌^◌, Bool, true, false, List, [], ◌∷◌, ◌++◌, length, take, drop}
@@ -29,6 +29,6 @@ subproof_at (suc level) old_size entries known =
 unfoldable pub subproof : ℕ → List (List ℕ) → Bool → List (List ℕ)
 subproof old_size entries known = subproof_at (length entries) old_size entries known
 
--- PROOF: the old root is the one that was asked for
+-- PROOF: the old root is the one that the proof is requested for
 abbrev pub consistency_proof : ℕ → List (List ℕ) → List (List ℕ)
 consistency_proof old_size entries = subproof old_size entries true

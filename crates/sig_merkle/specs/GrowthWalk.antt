@@ -20,11 +20,12 @@ mask_of m = (m - 1) / 2 ^ shift_of m
 abbrev pub kept_by_bit : ℕ → List ℕ → List ℕ → List ℕ
 kept_by_bit bit value hash = if bit == 0 then value else node_of hash value
 
--- from a value up along those hashes that lie on the left: the first does where the lowest bit of the index is 1
+-- from a value up along those hashes that lie on the left: the first lies on the left if the lowest bit of the index is
+-- 1
 abbrev pub right_fold : List ℕ → List (List ℕ) → ℕ → List ℕ
 right_fold = bit_fold kept_by_bit
 
--- the hashes of a proof before the first of the walk: none where the m leaves fill one node, whose hash is the old
+-- the hashes of a proof before the first of the walk: `None` if the m leaves fill one node, whose hash is the old
 -- root, and else the hash of the last node that they fill
 unfoldable pub seed_len : ℕ → ℕ
 seed_len m = if m == 2 ^ shift_of m then 0 else 1
@@ -37,7 +38,7 @@ seed_of m old hashes = if m == 2 ^ shift_of m then old else slice_index_or hashe
 unfoldable pub growth_inner_len : ℕ → ℕ → ℕ
 growth_inner_len m n = inner_len (m - 1) n - shift_of m
 
--- from a hash of the last filled node up along the hashes: the old root takes those on the left alone
+-- from a hash of the last filled node up along the hashes: the old root takes only those on the left
 abbrev pub climb_old : ℕ → List ℕ → ℕ → List (List ℕ) → List ℕ
 climb_old inner seed mask hashes = border_fold (right_fold seed (take inner hashes) mask) (drop inner hashes)
 

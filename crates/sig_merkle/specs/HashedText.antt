@@ -2,11 +2,11 @@
 use Rattle.std.specs.Prelude.{◌≡◌, ◌⊎◌, ℕ, List, [], ◌∷◌, ◌++◌, length}
 use Rattle.sig_base.specs.Collision.{IsCollision}
 
--- what the hash of a leaf is taken of: 0x00 and the entry
+-- the bytes that the hash of a leaf is over: 0x00 and the entry
 abbrev pub IsLeafText : List ℕ → Type 0
 IsLeafText text = (entry : List ℕ) × (text ≡ 0 ∷ entry)
 
--- what the hash of a node is taken of: 0x01 and the hashes of its children, of 32 bytes each
+-- the bytes that the hash of a node is over: 0x01 and the hashes of its children, of 32 bytes each
 abbrev pub IsNodeText : List ℕ → Type 0
 IsNodeText text =
     (left : List ℕ) × (right : List ℕ) × (length left ≡ 32) × (length right ≡ 32) × (text ≡ 1 ∷ left ++ right)

@@ -29,7 +29,7 @@ abbrev pub root_or_wrong_size : Option (List ℕ) → ℕ → ℕ → Result (Li
 root_or_wrong_size (Some root) got want = Ok root
 root_or_wrong_size None got want = Err (WrongProofSize got want)
 
--- the root that a proof leads to, or why there is none
+-- the root that a proof leads to, or why there is no root
 unfoldable pub inclusion_root : ℕ → List ℕ → ℕ → List (List ℕ) → Result (List ℕ) MerkleProofError
 inclusion_root index leaf size hashes =
     if nat_le size index then Err IndexGtTreeSize
@@ -70,7 +70,7 @@ IsInclusionAnswer index leaf size hashes root (Err (NewTreeSmaller _ _)) = ⊥
 IsInclusionAnswer index leaf size hashes root (Err WrongEmptyTreeHash) = ⊥
 
 -- how many pairs of children an inclusion check hashes: all hashes of a path whose root was
--- compared, and none where the index or the number of hashes is wrong
+-- compared, and `None` if the index or the number of hashes is wrong
 abbrev pub inclusion_steps : Result (Unit {0}) MerkleProofError → ℕ → ℕ
 inclusion_steps (Ok _) count = count
 inclusion_steps (Err (MismatchedRoot _ _)) count = count

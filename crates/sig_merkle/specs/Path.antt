@@ -32,7 +32,7 @@ path_root_at (suc level) index leaf size hashes =
     else with_left hashes (λ rest. path_root_at level (index - 2 ^ level) leaf (size - 2 ^ level) rest))
     else path_root_at level index leaf size hashes
 
--- the root that a path leads to; none where the number of its hashes does not fit
+-- the root that a path leads to; `None` if the number of its hashes does not fit
 unfoldable pub path_root : ℕ → List ℕ → ℕ → List (List ℕ) → Option (List ℕ)
 path_root index leaf size hashes = path_root_at size index leaf size (reverse hashes)
 

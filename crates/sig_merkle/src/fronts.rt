@@ -12,8 +12,8 @@ use sig_base::{Bytes, Entries, OutOfMemory, Steps};
 use std::alloc::Global;
 use std::sync::ledger::Ledger;
 
-/// Returns for each count the root of the tree of the first so many entries (RFC 6962 section 2.1). No count is below
-/// the one before it. Fails only if out of memory.
+/// Returns for each count the root of the tree of that number of first entries (RFC 6962 section 2.1). No count is
+/// below the one before it. Fails only if out of memory.
 ///
 /// Each entry, and each node of the tree of all entries, is hashed once. A step is one hash of two children: those of
 /// the tree of all entries, one fewer than there are, and for each count at most one at each level of that tree.
@@ -34,7 +34,7 @@ pub fn roots_of_fronts<L: Ledger>(
     Ok(roots)
 }
 
-/// Writes the root for each count. Each is that of no entry before.
+/// Writes the root for each count. They start as the root of no entries.
 fn write_fronts<L: Ledger>(
     entries: &Entries,
     counts: &[usize],

@@ -21,8 +21,8 @@ pub struct Roots {
 }
 
 /// Returns the hash that the inner hashes of a consistency proof lead to in the old tree: the hash at index i is that
-/// of the left child where bit i of the index is 1, and is not of the old tree where it is 0. A step is one hash of two
-/// children, so there are at most as many as hashes.
+/// of the left child where bit i of the index is 1, and is not in the old tree where it is 0. A step is one hash of two
+/// children, so there are at most as many steps as hashes.
 #[tactic(auto, using(crate::proofs::BitFolds::follows_bits))]
 pub fn chain_inner_right<L: Ledger>(
     seed: &[u8; 32],
@@ -86,7 +86,7 @@ fn shift(size: u64) -> u32
     size.trailing_zeros()
 }
 
-/// Returns the number of hashes of a proof before the walk: none where the old root is the hash that it starts at.
+/// Returns the number of hashes of a proof before the walk: 0 if the walk starts at the old root.
 #[tactic(auto, using(crate::proofs::GrowthSteps::takes_seed))]
 fn taken(old_size: u64) -> u64
     requires { 0 < old_size }

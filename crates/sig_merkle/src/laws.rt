@@ -204,10 +204,10 @@ pub fn same_entries()
         → (slice_get entries index ≡ Some entry) ⊎ IsBroken }
 {}
 
-/// What an accepted consistency proof says of the list whose size and root it is accepted for: the old root is that of
-/// the list's first entries, unless two different texts that a tree hashes have one SHA-256. So two such proofs, from
-/// two old sizes, are of trees of which one has the other as its first leaves. Of trees of one size, and from the empty
-/// tree, a proof has no hash and only roots are compared: two empty trees are consistent under any equal roots.
+/// What an accepted consistency proof says about the list whose size and root it is accepted for: the old root is that
+/// of the list's first entries, unless two different texts that a tree hashes have one SHA-256. So two such proofs,
+/// from two old sizes, are of trees of which one has the other as its first leaves. Of trees of one size, and from the
+/// empty tree, a proof has no hash and only roots are compared: two empty trees are consistent under any equal roots.
 pub fn older_trees()
     ensures front { (old_size : ℕ) (old : List ℕ) (hashes entries : List (List ℕ)) → AreHashes (old ∷ hashes)
         → IsConsistent old_size (length entries) hashes old (root entries)

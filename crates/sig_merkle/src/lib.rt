@@ -9,8 +9,9 @@
 //!   `consistency_answer`; it is Ok if and only if `IsConsistent` holds.
 //! - `tree`: the root of a list of entries, and the audit path of one of them: the definitions `root`
 //!   and `audit_path`, which are the standard's MTH and PATH. `subproof`: the standard's PROOF.
-//! - `repeats`: what a tree of many equal entries has at hand, so that none of its hashes is made twice.
-//! - `front`: the roots of a list and of its first entries together, each node hashed once; `fronts`: those of its first
+//! - `repeats`: what a tree of many equal entries keeps, so that no hash is made twice.
+//! - `front`: the roots of a list and of its first entries together, each node hashed once; `fronts`: those of its
+//!   first
 //!   entries at several sizes.
 //! - `entry_collision`, `paths_collision`, `growth_collision`: an accepted proof of an entry that the
 //!   list does not have at the index, accepted proofs of two entries at one index, and an accepted

@@ -44,7 +44,8 @@ pub(crate) fn meet_nodes(
     Ok(hash_both(node_text(alloc, one)?, node_text(alloc, other)?))
 }
 
-/// Returns what the hash of a node is taken of: 0x01, and the hashes of its children. Fails only if out of memory.
+/// Returns the bytes that the hash of a node is over: 0x01, and the hashes of its children. Fails only if out of
+/// memory.
 fn node_text(alloc: Global, children: Children) -> Result<Bytes, OutOfMemory>
     ensures { IfOk result (λ text. text ≡ 1 ∷ children.left ++ children.right) }
 {

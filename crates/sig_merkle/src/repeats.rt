@@ -1,7 +1,7 @@
 //! Hashes that the tree of a list has again and again, where many of its entries are equal.
 //!
-//! A list can have millions of entries without a byte between others, each of which costs its sender next to nothing.
-//! With these at hand no tree of such entries alone is hashed twice.
+//! A list can have millions of empty entries between others, each of which costs its sender next to nothing.
+//! With these hashes no tree of only such entries is hashed twice.
 ghost use Rattle.std.specs.Prelude.{◌≡◌, ◌+◌, ◌<◌, ◌≤◌, []};
 ghost use Rattle.sig_merkle.specs.Root.{leaf_of, node_of};
 
@@ -49,7 +49,7 @@ impl Model for Repeats {
 }
 
 impl Repeats {
-    /// No node was hashed yet. It takes no memory.
+    /// Returns the store without hashes. It takes no memory.
     pub(crate) fn new() -> Repeats {
         Repeats {
             blank: hash_leaf(&[]),

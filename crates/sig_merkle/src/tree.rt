@@ -122,7 +122,7 @@ pub(crate) fn halves(entries: &[Bytes]) -> (&[Bytes], &[Bytes])
     entries.split_at(split_point(entries.len() as u64) as usize)
 }
 
-/// Whether both halves have the same entries. Entries of different lengths are told apart by these alone.
+/// Whether both halves have the same entries. Entries of different lengths are told apart by these.
 fn is_repeated(left: &[Bytes], right: &[Bytes]) -> bool
     ensures { IsTrue result ↔ (left.now ≡ right.now) }
 {

@@ -136,7 +136,8 @@ fn front_roots_on<L: Ledger>(blank: Blank, entries: &Entries, count: usize) -> R
     crate::front::front_roots(entries, count, &mut steps)
 }
 
-/// Returns for each count the root of the tree of the first so many entries, as `roots_of_fronts` of this crate does.
+/// Returns for each count the root of the tree of that number of first entries, as `roots_of_fronts` of this crate
+/// does.
 pub fn roots_of_fronts(
     alloc: Global,
     entries: &Entries,

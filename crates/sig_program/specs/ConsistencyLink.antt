@@ -18,11 +18,11 @@ abbrev pub IsGrown : ConsistencyRequest → Type 0
 IsGrown request =
     IsConsistent request.old_size request.tree_size request.hashes request.old_root request.root_hash
 
--- what a link asks of the tree head of a request of `consistency`: that of the tree of now
+-- what a link requires of the tree head of a request of `consistency`, which is that of the new tree
 abbrev pub HoldsOfGrownHead : ConsistencyRequest → Link → Type 0
 HoldsOfGrownHead request = HoldsOfHead request.head request.tree_size request.root_hash
 
--- what a link asks of a request of `consistency`, of which all links before it hold
+-- what a link requires of a request of `consistency`, if all links before it hold
 abbrev pub HoldsOfConsistency : ConsistencyRequest → Link → Type 0
 HoldsOfConsistency request Checkpoint = HoldsOfGrownHead request Checkpoint
 HoldsOfConsistency request NoteKey = HoldsOfGrownHead request NoteKey
@@ -35,6 +35,6 @@ abbrev pub HoldsConsistency : List ℕ → Link → Type 0
 HoldsConsistency text link =
     (request : ConsistencyRequest) × IsRequestOf consistency_request text request × HoldsOfConsistency request link
 
--- the first failing link of a request, or none
+-- the first failing link of a request, or `None`
 abbrev pub IsConsistencyVerdict : ConsistencyRequest → Option Link → Type 0
 IsConsistencyVerdict request = IsLinkVerdict (HoldsOfConsistency request) consistency_links

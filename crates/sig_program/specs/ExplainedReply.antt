@@ -1,4 +1,4 @@
--- The reply of `explain`: that of the command, and after it one line, its explanation.
+-- The reply of `explain`: that of the command, and then one line, its explanation.
 use Rattle.std.specs.Prelude.{◌≡◌, ℕ, List, ◌++◌, codes}
 use Rattle.sig_explain_log.specs.Request.{request_tree}
 use Rattle.sig_json.specs.Data.{Data}
@@ -18,7 +18,7 @@ explained_by plain tree = record {
   text = plain.text ++ (compact_text tree ++ codes "\n");
 }
 
--- what stands before the last line is the command's reply to the text, and the last line explains it
+-- the lines before the last are the command's reply to the text, and the last line explains it
 pub record IsExplained (what : Explained) (text : List ℕ) (reply : Reply) : Type 0 where
   pub plain : Reply
   pub replies : IsReply (explained_command what) text plain
@@ -26,6 +26,6 @@ pub record IsExplained (what : Explained) (text : List ℕ) (reply : Reply) : Ty
   pub explains : IsExplanation what text tree
   pub are : reply ≡ explained_by plain tree
 
--- of each command the explained reply to a text that is too long
+-- the explained reply of each command to a text that is too long
 abbrev pub long_explained : Reply
 long_explained = explained_by (refusal_reply Request) (request_tree TooLong)

@@ -6,7 +6,7 @@ use Rattle.sig_program.specs.SecondLine.{AreOfNow, IsFrontLineOf, prefix_line}
 use Rattle.sig_reply.specs.SecondLine.{ShowsCollision}
 use Rattle.sig_request.specs.declared.consistency_request.ConsistencyRequest.{ConsistencyRequest}
 
--- a tree of equal size, or none, is a front of the list: nothing can collide
+-- a tree of equal size, or of size 0, is a front of the list: nothing can collide
 abbrev pub TrivialFronts : Type 0
 TrivialFronts =
     (request : ConsistencyRequest) (entries : List (List ℕ)) (line : List ℕ)
@@ -14,7 +14,7 @@ TrivialFronts =
     → (request.old_size ≡ request.tree_size) ⊎ (request.old_size ≡ 0)
     → line ≡ prefix_line request.old_size
 
--- the root is that of a list of so many entries, of which the older root is that of the first
+-- the root is that of a list of this size, and the older root is that of its first entries
 abbrev pub IsFrontOfFront : ConsistencyRequest → ConsistencyRequest → Type 0
 IsFrontOfFront older later =
     (entries : List (List ℕ)) × (length entries ≡ later.old_size) × (later.old_root ≡ root entries)

@@ -1,4 +1,4 @@
--- A list that `questions` writes fits one request with the request that it is of, and so can be given back.
+-- A list that `questions` writes fits one request with the request that it is for, and so can be given back.
 use Rattle.std.specs.Prelude.{◌≡◌, ℕ, ◌≤◌, List, ◌++◌, length}
 use Rattle.sig_request.specs.Limit.{most_bytes}
 use Rattle.sig_program.specs.Reply.{IsReply}

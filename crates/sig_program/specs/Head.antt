@@ -26,7 +26,7 @@ abbrev pub HasAcceptedSignature : ClaimedHead → SignedCheckpoint → Type 0
 HasAcceptedSignature head checkpoint =
     Any (λ signature. Contains head.accepted (head_row head checkpoint signature)) checkpoint.signatures
 
--- the note speaks of a tree of this size and root
+-- the note is of a tree of this size and root
 abbrev pub IsMatched : ℕ → List ℕ → SignedCheckpoint → Type 0
 IsMatched size root checkpoint = (checkpoint.note.size ≡ size) × (checkpoint.note.hash ≡ root)
 
@@ -34,18 +34,18 @@ IsMatched size root checkpoint = (checkpoint.note.size ≡ size) × (checkpoint.
 abbrev pub OfHeadCheckpoint : ClaimedHead → (SignedCheckpoint → Type 0) → Type 0
 OfHeadCheckpoint head P = (checkpoint : SignedCheckpoint) × IsCheckpoint head.checkpoint checkpoint × P checkpoint
 
--- what a link asks of a tree head of this size and root, of which all links before it hold
+-- what a link requires of a tree head of this size and root, if all links before it hold
 abbrev pub HoldsOfHead : ClaimedHead → ℕ → List ℕ → Link → Type 0
 HoldsOfHead head size root Checkpoint = OfHeadCheckpoint head (λ _. Unit {0})
 HoldsOfHead head size root NoteKey = OfHeadCheckpoint head (HasAcceptedSignature head)
 HoldsOfHead head size root NoteMatch = OfHeadCheckpoint head (IsMatched size root)
 HoldsOfHead head size root other = Unit {0}
 
--- the first failing link of a tree head, or none
+-- the first failing link of a tree head, or `None`
 abbrev pub IsHeadVerdict : ClaimedHead → ℕ → List ℕ → Option Link → Type 0
 IsHeadVerdict head size root = IsLinkVerdict (HoldsOfHead head size root) head_links
 
--- the first failing link after the checkpoint, or none, where this is the checkpoint's reading
+-- the first failing link after the checkpoint, or `None`, where this is the checkpoint's reading
 abbrev pub IsHeadVerdictUnder : ClaimedHead → ℕ → List ℕ → SignedCheckpoint → Option Link → Type 0
 IsHeadVerdictUnder head size root checkpoint None = HasAcceptedSignature head checkpoint
     × IsMatched size root checkpoint

@@ -40,7 +40,7 @@ abbrev pub HoldsHeadQuestions : {R : Type 0} → (Data → Option R) → (R → 
 HoldsHeadQuestions {R = R} meaning head_of text link =
     (request : R) × IsRequestOf meaning text request × HoldsOfHeadQuestions text (head_of request) link
 
--- the one checkpoint that the text of a head is, or none
+-- the one checkpoint that the text of a head is, or `None`
 abbrev pub IsCheckpointOf : ClaimedHead → Option SignedCheckpoint → Type 0
 IsCheckpointOf head None = (checkpoint : SignedCheckpoint) → ¬ IsCheckpoint head.checkpoint checkpoint
 IsCheckpointOf head (Some checkpoint) =

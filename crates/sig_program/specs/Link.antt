@@ -32,8 +32,8 @@ use Rattle.sig_witness_command.specs.declared.request.WitnessRequest.{WitnessReq
 abbrev pub log_links : List Link
 log_links = Request ∷ Checkpoint ∷ NoteKey ∷ NoteMatch ∷ Inclusion ∷ []
 
--- of `audit` the one link that is of no head and of no watched entry: the others are sig_audit_command's; of `witness`
--- and of `gate` the one that there is
+-- for `audit` the one link that is about no head and no watched entry: the others are sig_audit_command's; for
+-- `witness` and for `gate` the only link
 abbrev pub links : Command → List Link
 links Log = log_links
 links Verify = verify_links
@@ -52,11 +52,11 @@ links GateQuestions = Request ∷ []
 abbrev pub IsLogged : LogRequest → Type 0
 IsLogged request = IsProofOf request.entry request.proof
 
--- what a link asks of the tree head of a request of `log`: that of the proof's tree
+-- what a link requires of the tree head of a request of `log`, which is that of the proof's tree
 abbrev pub HoldsOfLogHead : LogRequest → Link → Type 0
 HoldsOfLogHead request = HoldsOfHead request.head request.proof.tree_size request.proof.root_hash
 
--- what a link asks of a request of `log`, of which all links before it hold
+-- what a link requires of a request of `log`, if all links before it hold
 abbrev pub HoldsOfLog : LogRequest → Link → Type 0
 HoldsOfLog request Checkpoint = HoldsOfLogHead request Checkpoint
 HoldsOfLog request NoteKey = HoldsOfLogHead request NoteKey
@@ -89,10 +89,10 @@ Holds GateQuestions text link = HasManifest text
 abbrev pub EveryLinkHolds : Command → List ℕ → Type 0
 EveryLinkHolds command text = AllByRecursion (Holds command text) (links command)
 
--- of the command's links, the first that does not hold of a text
+-- the first of the command's links that does not hold of a text
 abbrev pub IsFirstFailing : Command → List ℕ → Link → Type 0
 IsFirstFailing command text link = FailsFirst (Holds command text) (links command) link
 
--- the first failing link of a request, or none
+-- the first failing link of a request, or `None`
 abbrev pub IsLogVerdict : LogRequest → Option Link → Type 0
 IsLogVerdict request = IsLinkVerdict (HoldsOfLog request) log_links

@@ -116,7 +116,7 @@ IsVerifyQuestionsReply request reply =
     × ((row : AcceptedRow) → Contains rows row ↔ IsAskedBy (inputs request) row)
     × AreFewQuestions (inputs request) rows × IsReadBack rows × (reply ≡ listed (rows_text rows))
 
--- the reply of a command to a text of which every link holds: `log` shows the proof of the one request that the text
+-- the reply of a command to a text for which every link holds: `log` shows the proof of the one request that the text
 -- is, `verify` that of the log entry of its bundle, and `consistency` the two sizes of its request; after these,
 -- where the request gives the log's entries, comes the second line; `questions` lists the signatures that the
 -- command asks for

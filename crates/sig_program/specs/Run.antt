@@ -73,13 +73,13 @@ ReadFaulted words before now sink_old sink_new = IsInvocation words × Rose befo
 abbrev pub IsRestOf : List ℕ → List ℕ → Type 0
 IsRestOf bytes piece = (front : List ℕ) × (bytes ≡ front ++ piece)
 
--- each piece that was handed over is all that was left of the bytes
+-- each piece that was given is all that was left of the bytes
 abbrev pub HandsRests : Option (List (List ℕ)) → Option (List (List ℕ)) → List ℕ → Type 0
 HandsRests None new bytes = ⊤
 HandsRests (Some before) new bytes =
     (pieces : List (List ℕ)) × (new ≡ Some (before ++ pieces)) × AllByRecursion (IsRestOf bytes) pieces
 
--- of the output, each write was handed all that was left; where there is none, nothing was handed over
+-- each write was given all that was left of the output; if the output is empty, nothing was given
 abbrev pub WritesRests : List (List ℕ) → Option (List ℕ) → Option (List ℕ) → Option (List (List ℕ))
     → Option (List (List ℕ)) → Type 0
 WritesRests words left_old left_new handed_old handed_new =

@@ -24,7 +24,7 @@ IsEntryAt entries proof body =
 abbrev pub entry_line : ℤ → List ℕ
 entry_line index = codes "entry " ++ (signed_decimal index ++ codes "\n")
 
--- so many first entries
+-- the line for this number of first entries
 abbrev pub prefix_line : ℕ → List ℕ
 prefix_line count = codes "prefix " ++ (decimal count ++ codes "\n")
 
@@ -36,7 +36,7 @@ IsLineOf entries body proof line =
     ⊎ (AreOfProof entries proof × IsEntryAt entries proof body × (line ≡ entry_line proof.log_index))
     ⊎ (AreOfProof entries proof × ¬ IsEntryAt entries proof body × ShowsCollision line)
 
--- the second line of `log` and of `verify`: none without entries
+-- the second line of `log` and of `verify`: no line without entries
 abbrev pub IsSecondLine : Option (List (List ℕ)) → List ℕ → InclusionProof → List ℕ → Type 0
 IsSecondLine None body proof line = line ≡ []
 IsSecondLine (Some entries) body proof line = IsLineOf entries body proof line
@@ -45,7 +45,7 @@ IsSecondLine (Some entries) body proof line = IsLineOf entries body proof line
 abbrev pub AreOfNow : List (List ℕ) → ConsistencyRequest → Type 0
 AreOfNow entries request = AreOfTree entries request.tree_size request.root_hash
 
--- the old root is that of the first entries, as many as the old size
+-- the old root is that of the first entries, whose number is the old size
 abbrev pub IsFront : List (List ℕ) → ConsistencyRequest → Type 0
 IsFront entries request = request.old_root ≡ root (take request.old_size entries)
 
@@ -57,7 +57,7 @@ IsFrontLineOf entries request line =
     ⊎ (AreOfNow entries request × IsFront entries request × (line ≡ prefix_line request.old_size))
     ⊎ (AreOfNow entries request × ¬ IsFront entries request × ShowsCollision line)
 
--- the second line of `consistency`: none without entries
+-- the second line of `consistency`: no line without entries
 abbrev pub IsFrontLine : Option (List (List ℕ)) → ConsistencyRequest → List ℕ → Type 0
 IsFrontLine None request line = line ≡ []
 IsFrontLine (Some entries) request line = IsFrontLineOf entries request line

@@ -46,11 +46,11 @@ consistency_with_accepted request rows = record {
   entries = request.entries;
 }
 
--- two lists of accepted signatures have the same of these
+-- two lists of accepted signatures agree on these
 abbrev pub AgreeOn : List AcceptedRow → List AcceptedRow → List AcceptedRow → Type 0
 AgreeOn rows one other = (row : AcceptedRow) → Contains rows row → Contains one row ↔ Contains other row
 
--- the tree head's accepted signatures and these have the same of those that its links ask for
+-- the tree head's accepted signatures and these agree on those that its links ask for
 abbrev pub AgreeOnHead : ClaimedHead → List AcceptedRow → Type 0
 AgreeOnHead head rows = (asked : List AcceptedRow) → AreHeadQuestions head asked → AgreeOn asked head.accepted rows
 
@@ -84,7 +84,7 @@ verify_with_accepted request rows = record {
   entries = request.entries;
 }
 
--- the request's accepted signatures and these have the same of those that a link asks for, also where no list was
+-- the request's accepted signatures and these agree on those that a link asks for, also where no list was
 -- written
 abbrev pub AgreeOnAsked : VerifyRequest → List AcceptedRow → Type 0
 AgreeOnAsked request rows =

@@ -33,14 +33,14 @@ checker request = record {
   cert = λ issuer algorithm tbs signature. accepted request.accepted Certificate algorithm issuer tbs signature;
 }
 
--- as a list of one policy, of which one has to hold; no link speaks of the refusal
+-- as a list of one policy, of which one has to hold; no link is about the refusal
 abbrev pub policy : VerifyRequest → PolicyOf
 policy request = record { holds = request_holds request.policy; refusal = λ c. any_of 1 }
 
 abbrev pub outside : VerifyRequest → Outside
 outside request = record { checker = checker request; policy = policy request }
 
--- what a link asks of a request of `verify`, of which all links before it hold
+-- what a link requires of a request of `verify`, if all links before it hold
 abbrev pub HoldsOfVerify : VerifyRequest → Link → Type 0
 HoldsOfVerify request = HoldsOfInputs (outside request) (inputs request)
 

@@ -25,7 +25,7 @@ VerifyQuestionsFit text request =
 abbrev pub verify_question_links : List Link
 verify_question_links = Request ∷ question_links
 
--- what a link asks of a text, and of the request that it is, whatever signatures are accepted: `issuer`, that a
+-- what a link requires of a text, and of the request that it is, whatever signatures are accepted: `issuer`, that a
 -- path would lead to a trust anchor if every signature were genuine
 abbrev pub HoldsOfVerifyQuestions : List ℕ → VerifyRequest → Link → Type 0
 HoldsOfVerifyQuestions text request Request = VerifyQuestionsFit text request
@@ -36,8 +36,8 @@ abbrev pub HoldsVerifyQuestions : List ℕ → Link → Type 0
 HoldsVerifyQuestions text link =
     (request : VerifyRequest) × IsRequestOf verify_request text request × HoldsOfVerifyQuestions text request link
 
--- Of a request of `verify` a link other than `request` is the first that fails in `questions verify` if and only if it
--- is the first that fails in the chain of trust, whatever signatures are accepted and whatever the policy says.
+-- For a request of `verify`, a link other than `request` is the first that fails in `questions verify` if and only if
+-- it is the first that fails in the chain of trust, whatever signatures are accepted and whatever the policy says.
 abbrev pub RefusesForAll : Type 0
 RefusesForAll =
     (text : List ℕ) (request : VerifyRequest) (link : Link) → IsRequestOf verify_request text request → link ≢ Request

@@ -4,7 +4,7 @@ ghost use Rattle.sig_program.specs.Command.{IsCommand, Names};
 
 use sig_base::Text;
 
-/// A command: what a request is asked for.
+/// A command: what the program does with a request.
 #[derive(Clone, Copy, PartialEq, Eq)]
 pub enum Command {
     /// `log`: is this entry in the log, and does the log vouch for it?
@@ -34,7 +34,7 @@ pub enum Command {
 }
 
 impl Command {
-    /// Returns the command that the words name; `None` if and only if they name none. It takes no memory.
+    /// Returns the command that the words name; `None` if and only if they do not name one. It takes no memory.
     #[tactic(auto, using(crate::proofs::CommandNames::naming))]
     pub fn named(words: &[Text]) -> Option<Command>
         ensures { MatchOption result (¬ IsCommand words.now) (Names words.now) }

@@ -52,7 +52,7 @@ fn reply_to(alloc: Global, request: &ConsistencyRequest) -> Result<Reply, OutOfM
     reply_under(alloc, request, verdict)
 }
 
-/// The first link that fails of a request, or none.
+/// Returns the first link of a request that fails, or `None`.
 #[tactic(auto, using(crate::proofs::ConsistencyVerdicts::verdicts))]
 pub(crate) fn failing_link(
     alloc: Global,
@@ -88,7 +88,7 @@ fn is_grown(request: &ConsistencyRequest) -> bool
     .is_ok()
 }
 
-/// The reply to a request of which this is the first link that fails, or none.
+/// Returns the reply to a request whose first failing link is this, or that has none.
 pub(crate) fn reply_under(
     alloc: Global,
     request: &ConsistencyRequest,
@@ -104,7 +104,7 @@ pub(crate) fn reply_under(
     }
 }
 
-/// The reply to a request of which every link holds.
+/// Returns the reply to a request for which every link holds.
 fn grown_reply(alloc: Global, request: &ConsistencyRequest) -> Result<Reply, OutOfMemory>
     requires { IsGrown request.now }
     ensures { IfOk result (IsConsistentReply request.now) }

@@ -16,8 +16,8 @@ use sig_demo::DemoLog;
 use sig_reply::Reply;
 use std::alloc::Global;
 
-/// Returns the request of `log` for the middle entry of a made log of so many entries, from 1 to 4096. Its entries are
-/// `L123456`, `L123457` and so on, and its log is `demo`, whose signature is taken for genuine. Every link of `log`
+/// Returns the request of `log` for the middle entry of a generated log of `count` entries, from 1 to 4096. Its entries
+/// are `L123456`, `L123457` and so on, and its log is `demo`, whose signature is taken for genuine. Every link of `log`
 /// holds of it. Fails only if out of memory.
 pub fn demo_request(alloc: Global, count: u64) -> Result<Bytes, OutOfMemory>
     requires some { 1 ≤ count }
@@ -48,7 +48,7 @@ pub fn demo(alloc: Global, count: u64) -> Result<Reply, OutOfMemory>
     reply
 }
 
-/// The lines over the log of so many entries. Fails only if out of memory.
+/// Returns the lines over the log of `count` entries. Fails only if out of memory.
 fn reply_over(alloc: Global, count: u64, log: &DemoLog) -> Result<Reply, OutOfMemory>
     requires some { 1 ≤ count }
     requires most { count ≤ 4096 }
@@ -65,7 +65,7 @@ fn reply_over(alloc: Global, count: u64, log: &DemoLog) -> Result<Reply, OutOfMe
     })
 }
 
-/// The reply of `log` to the request over the log of so many entries. Fails only if out of memory.
+/// Returns the reply of `log` to the request over the log of `count` entries. Fails only if out of memory.
 fn logged_reply(alloc: Global, count: u64, log: &DemoLog) -> Result<Reply, OutOfMemory>
     requires some { 1 ≤ count }
     requires most { count ≤ 4096 }

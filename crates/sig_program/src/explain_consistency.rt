@@ -14,9 +14,9 @@ use sig_request::ConsistencyRequest;
 use sig_request_fault::consistency_request_fault;
 use std::alloc::Global;
 
-/// Returns the reply of `consistency` to a request's text, and its explanation as the last line: what is wrong with a text
-/// that is not a request; of a request the first link that fails with what it compares, or what was verified. Fails
-/// only if out of memory.
+/// Returns the reply of `consistency` to a request's text, and its explanation as the last line: what is wrong with a
+/// text that is not a request; for a request, the first link that fails with what it compares, or what was verified.
+/// Fails only if out of memory.
 #[inline(never)]
 pub fn explain_consistency(alloc: Global, text: &[u8]) -> Result<Reply, OutOfMemory>
     ensures { IfOk result (IsExplained Consistency text.now) }

@@ -24,9 +24,9 @@ use sig_request_fault::verify_request_fault;
 use sig_verify::{Link, LoggedEntry, OfflineError};
 use std::alloc::Global;
 
-/// Returns the reply of `verify` to a request's text, and its explanation as the last line: what is wrong with a text that
-/// is not a request; of a request the first link of the chain of trust that fails with what it compares, or what was
-/// verified. The chain of trust is tested once. Fails only if out of memory.
+/// Returns the reply of `verify` to a request's text, and its explanation as the last line: what is wrong with a text
+/// that is not a request; for a request, the first link of the chain of trust that fails with what it compares, or what
+/// was verified. The chain of trust is tested once. Fails only if out of memory.
 #[inline(never)]
 pub fn explain_verify(alloc: Global, text: &[u8]) -> Result<Reply, OutOfMemory>
     ensures { IfOk result (IsExplained Verify text.now) }
@@ -65,7 +65,7 @@ fn explain_request(alloc: Global, request: &VerifyRequest) -> Result<Reply, OutO
         Err(error) => {
             let reply = match error.link() {
                 Some(link) => explain_refusal(alloc, request, &error, link),
-                // Only `OutOfMemory` belongs to no link.
+                // Only `OutOfMemory` does not belong to a link.
                 None => Err(OutOfMemory),
             };
             drop(error);
@@ -74,7 +74,7 @@ fn explain_request(alloc: Global, request: &VerifyRequest) -> Result<Reply, OutO
     }
 }
 
-/// The explained reply to a request of which every link holds, with the log entry of its bundle.
+/// Returns the explained reply to a request for which every link holds, with the log entry of its bundle.
 fn explain_entry(
     alloc: Global,
     request: &VerifyRequest,
@@ -90,7 +90,7 @@ fn explain_entry(
     explained_by(alloc, &plain, &explanation)
 }
 
-/// The explained reply to a request of which this link is the first that fails, with this error.
+/// Returns the explained reply to a request for which this link is the first that fails, with this error.
 fn explain_refusal(
     alloc: Global,
     request: &VerifyRequest,

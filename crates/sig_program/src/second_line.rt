@@ -1,5 +1,5 @@
-//! The second line of a reply: what the log's own entries say of the entry that the inclusion proof is of, and of the old
-//! root that the consistency proof is from.
+//! The second line of a reply: what the log's own entries say of the entry that the inclusion proof is of, and of the
+//! old root that the consistency proof is from.
 //!
 //! ```text
 //! entry 2
@@ -59,7 +59,7 @@ fn line_of(
     if !are_of_proof(entries, proof) {
         return other_text(alloc);
     }
-    // No leaf has a negative index.
+    // A negative index is not that of a leaf.
     let Ok(index) = u64::try_from(proof.log_index) else {
         unreachable!()
     };

@@ -42,7 +42,7 @@ pub fn verify_reply(alloc: Global, request: &[u8]) -> Result<Reply, OutOfMemory>
                 drop(request);
                 refused(alloc, link)
             }
-            // Only `OutOfMemory` belongs to no link.
+            // Only `OutOfMemory` does not belong to a link.
             None => {
                 drop(error);
                 drop(request);
@@ -78,7 +78,7 @@ pub(crate) fn verify_chain(
     )
 }
 
-/// The reply to a request of which every link holds, with the log entry of its bundle.
+/// Returns the reply to a request for which every link holds, with the log entry of its bundle.
 pub(crate) fn verified_reply(
     alloc: Global,
     request: &VerifyRequest,

@@ -32,7 +32,7 @@ use std::alloc::Global;
 /// `,"accepted":` would have more than 2^24 bytes together. Which signatures the request itself accepts does not
 /// matter. Fails only if out of memory.
 ///
-/// Of two requests that differ in their accepted signatures alone, and in none of those that a link asks for, `verify`
+/// For two requests that differ only in accepted signatures that no link asks for, `verify`
 /// has the same reply, also where no list is written.
 pub fn verify_questions(alloc: Global, request: &[u8]) -> Result<Reply, OutOfMemory>
     ensures reply { IfOk result (IsReply VerifyQuestions request.now) }
@@ -61,7 +61,7 @@ fn reply_to(alloc: Global, text: &[u8], request: &VerifyRequest) -> Result<Reply
     requires { IsRequestOf verify_request text.now request.now }
     ensures { IfOk result (IsReply VerifyQuestions text.now) }
 {
-    // There is one list, of so few questions that its bytes can be counted, each of a scheme that has a name.
+    // There is one list. Its questions are so few that its bytes can be counted, and each has a scheme with a name.
     one_list();
     few();
     schemes();

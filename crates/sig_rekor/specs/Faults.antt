@@ -21,11 +21,11 @@ OfLines text P =
     (origin size hash : List ℕ) × (others : List (List ℕ)) × IsParts newline text (origin ∷ size ∷ hash ∷ others)
     × P origin size hash
 
--- the bytes of the text in base64, of which this holds
+-- the text is base64, and this holds of its bytes
 abbrev pub OfBytes : List ℕ → (List ℕ → Type 0) → Type 0
 OfBytes text P = (bytes : List ℕ) × (base64_bytes text ≡ Some bytes) × P bytes
 
--- what a rule asks of a note: three lines, an origin that is more than white space, a size, a hash in base64, and of
+-- what a rule asks of a note: three lines, an origin that is not only white space, a size, a hash in base64, and of
 -- 32 bytes
 abbrev pub NoteKeeps : List ℕ → CheckpointFault → Type 0
 NoteKeeps text NoteFormat = OfLines text (λ origin size hash. ⊤)
@@ -77,7 +77,7 @@ IsPieceFault (piece ∷ pieces) fault =
 abbrev pub LacksEmptyLine : List ℕ → Type 0
 LacksEmptyLine text = (body : List ℕ) × IsTrimmed quotation_mark text body × Lacks empty_line body
 
--- with quotation marks trimmed, the text is a note's and these pieces, which are more than white space, after the
+-- with quotation marks trimmed, the text is a note's and these pieces, which are not only white space, after the
 -- first empty line
 pub record HasPieces (text note_part : List ℕ) (written : List (List ℕ)) : Type 0 where
   pub body : List ℕ
@@ -88,8 +88,8 @@ pub record HasPieces (text note_part : List ℕ) (written : List (List ℕ)) : T
   pub between : IsParts empty_line rest pieces
   pub kept : written ≡ filter is_written pieces
 
--- *Fault of a checkpoint*: `Format` without an empty line; else that of the first piece that is not a signature; where
--- all are, the note's
+-- *Fault of a checkpoint*: `Format` if there is no empty line; else the fault of the first piece that is not a
+-- signature; where all are, the note's
 abbrev pub IsCheckpointFault : List ℕ → CheckpointFault → Type 0
 IsCheckpointFault text fault =
     (LacksEmptyLine text × (fault ≡ Format))

@@ -29,7 +29,8 @@ IsHashText text = (length text ≡ 64) × AllPass is_hex_digit text
 abbrev pub IsHashOf : List ℕ → List ℕ → Type 0
 IsHashOf text hash = IsHashText text × (decode_of text ≡ Ok hash)
 
--- *Fault of a hash*: no digits of whole bytes; else, of another number of bytes, what the caller says of that
+-- *Fault of a hash*: the text is not the digits of whole bytes; else it has another number of bytes, for which the
+-- caller has an error
 abbrev pub IsHashFault : UnexpectedKind → List ℕ → SigstoreError → Type 0
 IsHashFault other_length text e =
     (¬ IsOfBytes text × (e ≡ HexDecodeError))
@@ -38,7 +39,7 @@ IsHashFault other_length text e =
 abbrev pub AreHashTexts : List (List ℕ) → Type 0
 AreHashTexts texts = AllByRecursion IsHashText texts
 
--- *Fault of hashes*: that of the first text that is not a hash; the index that it keeps is the number of hashes before
+-- *Fault of hashes*: the fault of the first text that is not a hash; its index is the number of hashes before
 -- it
 pub record IsHashesFault (texts : List (List ℕ)) (e : SigstoreError) : Type 0 where
   pub before : List (List ℕ)
@@ -50,7 +51,7 @@ pub record IsHashesFault (texts : List (List ℕ)) (e : SigstoreError) : Type 0 
 
 -- ---- an inclusion proof
 
--- the checkpoint that a text is; the empty text is none
+-- the checkpoint that a text is; an empty text means no checkpoint
 abbrev pub IsCheckpointOf : List ℕ → Option SignedCheckpoint → Type 0
 IsCheckpointOf text None = text ≡ []
 IsCheckpointOf text (Some checkpoint) = (text ≢ []) × IsCheckpoint text checkpoint
@@ -68,7 +69,7 @@ abbrev pub IsTextFault : List ℕ → SigstoreError → Type 0
 IsTextFault text e =
     (fault : CheckpointFault) × (text ≢ []) × IsCheckpointFault text fault × (e ≡ ParseCheckpointError fault)
 
--- *Fault of a proof of the API*: of the hashes; where they are hashes, of the root; where it is one too, of the
+-- *Fault of a proof of the API*: that of the hashes; else that of the root; else that of the
 -- checkpoint
 abbrev pub IsProofFault : RekorInclusionProof → SigstoreError → Type 0
 IsProofFault api e =

@@ -27,6 +27,7 @@ hash_in other_length text =
 abbrev pub hash_at : ℕ → List ℕ → Result (List ℕ) SigstoreError
 hash_at index = hash_in (HashLength index)
 
--- the hashes that texts are, or the error of the first that is none; the texts are counted from this index on
+-- the hashes that texts are, or the error of the first text that is not a hash; the texts are counted from this index
+-- on
 abbrev pub hashes_from : ℕ → List (List ℕ) → Result (List (List ℕ)) SigstoreError
 hashes_from = each_from hash_at

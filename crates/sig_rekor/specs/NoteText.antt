@@ -90,7 +90,7 @@ root_hash_of line = base64_of HashBase64 line >>= hash_by
 unfoldable pub origin_of : List ℕ → Result (List ℕ) CheckpointFault
 origin_of line = if is_blank line then Err EmptyOrigin else Ok line
 
--- the note of so many lines, or the first rule that is broken
+-- the note that these lines are, or the first rule that is broken
 abbrev pub note_by : List (List ℕ) → Result Checkpoint CheckpointFault
 note_by (origin_line ∷ size_line ∷ hash_line ∷ others) = do
   origin ← origin_of origin_line

@@ -11,7 +11,7 @@ use Rattle.sig_rekor.specs.NoteText.{newline, hash_len, is_blank, other_content_
 use Rattle.sig_rekor.specs.SignatureText.{space, fingerprint_len, fingerprint_and_raw}
 use Rattle.sig_rekor.specs.CheckpointText.{quotation_mark}
 
--- one line that is not empty and means this content: a value has no `: `, and a key none either
+-- one line that is not empty and means this content: neither a value nor a key has `: `
 pub record IsContentLine (content : OtherContent) : Type 0 where
   pub line : Lacks newline (content_text content)
   pub written : 0 < length (content_text content)
@@ -31,7 +31,7 @@ pub record ReadsBack (checkpoint : SignedCheckpoint) : Type 0 where
   pub contents : AllByRecursion IsContentLine checkpoint.note.other_content
   pub names : AllByRecursion (λ (s : CheckpointSignature). IsSignerName s.name) checkpoint.signatures
 
--- what the types say of a signature and of a note: numbers below 2^64, arrays of their length, bytes below 256
+-- what the types guarantee for a signature and for a note: numbers below 2^64, arrays of their length, bytes below 256
 pub record IsSignatureValue (signature : CheckpointSignature) : Type 0 where
   pub fingerprint : length signature.key_fingerprint ≡ fingerprint_len
   pub bytes : IsBytes (fingerprint_and_raw signature)

@@ -9,7 +9,7 @@ use Rattle.sig_base.specs.declared.fault.CheckpointFault.{CheckpointFault}
 use Rattle.sig_rekor.specs.declared.fault.ParseCheckpointError.{ParseCheckpointError}
 use Rattle.sig_rekor.specs.declared.fault.ParseCheckpointError.TheVariants.{DecodeError, OutOfMemory}
 
--- each of a list read in order
+-- each element of a list, read in order
 abbrev pub read_each : {A B : Type 0} → (A → Result B CheckpointFault) → List A → Result (List B) CheckpointFault
 read_each read [] = Ok []
 read_each read (x ∷ xs) = do

@@ -21,8 +21,8 @@ use Rattle.sig_rekor.specs.Verify.{IsOfTree}
 
 -- ---- the tree of a note
 
--- the note's tree is larger than the proof's, or smaller, or as large and has another root: `old` and `expected` are the
--- note's, `new` and `got` the proof's
+-- the note's tree is larger than the proof's, or smaller, or as large and has another root: `old` and `expected` are
+-- the note's, `new` and `got` the proof's
 abbrev pub IsTreeCause : Checkpoint → List ℕ → ℕ → MerkleProofError → Type 0
 IsTreeCause note root size (NewTreeSmaller new old) = (size < note.size) × (new ≡ size) × (old ≡ note.size)
 IsTreeCause note root size UnexpectedEmptyProof = note.size < size
@@ -49,7 +49,7 @@ IsSigned accepts checkpoint =
 abbrev pub IsSignedHead : (List ℕ → List ℕ → Bool) → SignedCheckpoint → List ℕ → ℕ → Type 0
 IsSignedHead accepts checkpoint root size = IsSigned accepts checkpoint × IsOfTree checkpoint root size
 
--- *Refusal of a head*: no signature is accepted; or one is, for another tree
+-- *Refusal of a head*: no signature is accepted; or one is, but for another tree
 abbrev pub IsHeadRefusal : (List ℕ → List ℕ → Bool) → SignedCheckpoint → List ℕ → ℕ → SigstoreError → Type 0
 IsHeadRefusal accepts checkpoint root size e =
     (¬ IsSigned accepts checkpoint × (e ≡ CheckpointSignatureVerificationError))
@@ -57,8 +57,8 @@ IsHeadRefusal accepts checkpoint root size e =
 
 -- ---- an inclusion proof
 
--- no leaf of the tree has the index, which is negative or not below the size; else there are too many or too few hashes;
--- else the root that they lead to from the entry's leaf, `expected`, is not the proof's own, `got`
+-- the index is not that of a leaf, since it is negative or not below the size; else there are too many or too few
+-- hashes; else the root that they lead to from the entry's leaf, `expected`, is not the proof's own, `got`
 abbrev pub IsPathCause : ℤ → List ℕ → InclusionProof → MerkleProofError → Type 0
 IsPathCause index entry proof IndexGtTreeSize = (n : ℕ) → index ≡ pos n → proof.tree_size ≤ n
 IsPathCause index entry proof (WrongProofSize got want) =

@@ -1,5 +1,5 @@
 -- *Proof from Rekor*: the inclusion proof that Rekor's API returns, as the proof that it is (RFC 6962 section 2.1.1).
--- Hashes are texts in hexadecimal, and the checkpoint is a text, empty where there is none.
+-- Hashes are texts in hexadecimal, and the checkpoint is a text, empty if there is none.
 use Rattle.std.specs.Prelude.{ℕ, List, [], ◌∷◌, Option, Some, None, Result, Ok, Err}
 use Rattle.sig_base.specs.ResultSteps.{◌>>=◌}
 use Rattle.sig_base.specs.declared.error.SigstoreError.{SigstoreError}

@@ -31,7 +31,7 @@ fingerprint_and_raw signature = signature.key_fingerprint ++ signature.raw
 
 -- *Signature*: with newlines trimmed, the text starts with an em dash and has three parts between single spaces.
 -- The second is the name, and the third, white space at its end dropped, the base64 of the fingerprint's four bytes
--- and the signature's
+-- and the signature
 pub record IsSignature (text : List ℕ) (signature : CheckpointSignature) : Type 0 where
   pub line : List ℕ
   pub after_dash : List ℕ

@@ -3,7 +3,7 @@
 use Rattle.std.specs.Prelude.{◌≡◌, ◌≢◌, ℕ, zero, suc, ◌≤◌, ◌==◌, if◌then◌else◌, List, [], ◌∷◌, ◌++◌, length, reverse}
 use Rattle.std.specs.Prelude.{replicate, Option, Some, None, option_map}
 
--- the text is the body between marks, all of them: the body neither begins nor ends with one
+-- the text is the body between marks, with all of them: the body neither begins nor ends with a mark
 pub record IsTrimmed (mark : ℕ) (text body : List ℕ) : Type 0 where
   pub before : ℕ
   pub after : ℕ
@@ -59,7 +59,7 @@ abbrev pub parts_of_cut : List ℕ → (List ℕ → List (List ℕ)) → Option
 parts_of_cut text more None = text ∷ []
 parts_of_cut text more (Some cut) = cut.0 ∷ more cut.1
 
--- the parts, of at most so many separators
+-- the parts between separators, of which at most this number count
 unfoldable pub parts_within : ℕ → List ℕ → List ℕ → List (List ℕ)
 parts_within zero separator text = text ∷ []
 parts_within (suc most) separator text = parts_of_cut text (parts_within most separator) (cut_at separator text)

@@ -32,7 +32,7 @@ signed_answer accepts checkpoint = answer_if_signed (has_accepted_signature acce
 abbrev pub IsHeadOf : ℕ → List ℕ → List ℕ → ℕ → Type 0
 IsHeadOf note_size note_hash root size = (note_size ≡ size) × (note_hash ≡ root)
 
--- the note speaks of the tree of this size and root
+-- the note is of the tree of this size and root
 abbrev pub IsOfTree : SignedCheckpoint → List ℕ → ℕ → Type 0
 IsOfTree checkpoint root size = IsHeadOf checkpoint.note.size checkpoint.note.hash root size
 

@@ -10,7 +10,7 @@ use crate::cuts::{cut, trimmed};
 use sig_base::{OutOfMemory, Text};
 use std::alloc::Global;
 
-/// Writes the contents of a text. Lines of which none is empty are what is written of them: they are copied at once.
+/// Writes the contents of a text. Lines without an empty one are written as they are, so they are copied at once.
 #[tactic(auto, using(crate::proofs::WrittenLines::lines_written))]
 pub(crate) fn push_lines(alloc: Global, text: &mut String, lines: &str) -> Result<(), OutOfMemory>
     ensures { OnOk result (string_bytes text.new ≡ string_bytes text.old ++ flat_map content_line

@@ -101,7 +101,7 @@ impl InclusionProof {
         self.check_path(entry)
     }
 
-    /// Checks the audit path alone (RFC 6962 section 2.1.1): it leads from the entry's leaf to the root. No checkpoint
+    /// Checks only the audit path (RFC 6962 section 2.1.1): it leads from the entry's leaf to the root. No checkpoint
     /// is looked at, so that whose root it is stays open. It takes no memory.
     ///
     /// Errors, each an `InclusionProofError`, the first that applies:

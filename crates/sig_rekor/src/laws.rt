@@ -32,8 +32,8 @@ pub fn constants()
     ensures lengths { LengthsAreStandard }
 {}
 
-/// White space, which is dropped at the end of a signature's base64 and is not an origin alone, is Unicode's. It has no
-/// code.
+/// White space, which is dropped at the end of a signature's base64 and is not an origin by itself, is Unicode's. It
+/// has no code.
 pub fn white_space()
     ensures points { (c : ℕ) → IsTrue (is_whitespace c) ↔ IsTrue (is_white_space c) }
     ensures blank { (text : List ℕ) → IsUtf8 text →
@@ -134,10 +134,10 @@ pub fn proof_refusals()
         (proof_answer accepts entry proof ≡ Err error) ↔ IsProofRefusal accepts entry proof error }
 {}
 
-/// A text is a hash if and only if it is 64 hexadecimal digits, those of the hash. `HexDecodeError` comes if and only if
-/// it is not the digits of whole bytes, and what the caller says of another length if and only if it is, and has not
-/// 64. Of several texts each is a hash, or the fault of the first that is not one is told, with its index. It has
-/// no code.
+/// A text is a hash if and only if it is 64 hexadecimal digits, those of the hash. `HexDecodeError` comes if and only
+/// if it is not the digits of whole bytes, and what the caller says of another length if and only if it is, and does
+/// not have 64. For several texts, each is a hash, or the fault is that of the first that is not one, with its index.
+/// It has no code.
 pub fn hash_texts()
     ensures hash { (other_length : UnexpectedKind) (text hash : List ℕ) →
         (hash_in other_length text ≡ Ok hash) ↔ IsHashOf text hash }
@@ -150,8 +150,8 @@ pub fn hash_texts()
 {}
 
 /// An inclusion proof of Rekor's API is taken for a proof if and only if it is that proof. Each fault comes if and only
-/// if it has its cause: it is that of the first text that is not a hash; or the hashes are such, and it is the root's;
-/// or the root is one too, and it is that of the checkpoint's text. It has no code.
+/// if it has its cause: it is that of the first text that is not a hash; or all of them are hashes, and it is the
+/// root's; or the root is one too, and it is that of the checkpoint's text. It has no code.
 pub fn api_proofs()
     ensures proof { (api : ApiProof) (proof : Proof) →
         (inclusion_proof_from_rekor api ≡ Ok proof) ↔ IsProofOf api proof }

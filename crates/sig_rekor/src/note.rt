@@ -47,7 +47,7 @@ impl<'a> Model for Note<'a> {
 
 impl<'a> Note<'a> {
     /// Reads a note: lines for the origin, the size and the root hash, and each further line that is not empty as a
-    /// content. The memory that it takes is that of the hash.
+    /// content. It takes memory only for the hash.
     ///
     /// Errors, the first whose rule is broken:
     /// - `NoteFormat`: fewer than three lines;

@@ -32,13 +32,13 @@ pub struct RekorInclusionProof {
 }
 
 impl InclusionProof {
-    /// Returns the proof that the API's one is. Whether it proves anything is not asked, nor whether the index is in
-    /// the tree. An empty text of a checkpoint is none.
+    /// Returns the proof that the API's object is. It does not check whether the proof holds, or whether the index is
+    /// in the tree. An empty text means no checkpoint.
     ///
     /// Errors, the first that applies:
-    /// - `HexDecodeError`, or `UnexpectedError` of `HashLength` with its index: of the first hash that is not 64
+    /// - `HexDecodeError`, or `UnexpectedError` of `HashLength` with its index: for the first hash that is not 64
     ///   hexadecimal digits, as of [`decode_hash`];
-    /// - `HexDecodeError`, or `UnexpectedError` of `RootLength`: the same of the root hash;
+    /// - `HexDecodeError`, or `UnexpectedError` of `RootLength`: the same for the root hash;
     /// - `ParseCheckpointError`: the fault of [`SignedCheckpoint::decode`].
     ///
     /// `laws::api_proofs` says when each comes.
@@ -62,7 +62,7 @@ impl InclusionProof {
     }
 }
 
-/// The checkpoint of a text, none if it is empty.
+/// Returns the checkpoint of a text, `None` if it is empty.
 #[tactic(auto, unfolding(crate::specs::RekorProof::checkpoint_or_none))]
 fn decode_checkpoint(alloc: Global, text: &str) -> Result<Option<SignedCheckpoint>>
     ensures { Answers Memory (λ checkpoint. checkpoint) result (checkpoint_or_none text.now) }

@@ -152,7 +152,7 @@ fn accepts_one<C: SignatureChecker>(
     Ok(accepts_one_of(raws.as_slice(), message, key, checker))
 }
 
-/// The same of raw bytes.
+/// Whether the key accepts one of these raw signatures.
 fn accepts_one_of<C: SignatureChecker>(
     raws: &[&[u8]],
     message: &[u8],

@@ -1,5 +1,5 @@
--- *Members of an entry*: what a log entry of Rekor's API has under which name, and what the JSON of an entry's body, of a
--- proposed entry and of a `hashedrekord` has (Rekor's API: LogEntry, InclusionProof, ProposedEntry; its hashedrekord
+-- *Members of an entry*: what a log entry of Rekor's API has under which name, and what the JSON of an entry's body, of
+-- a proposed entry and of a `hashedrekord` has (Rekor's API: LogEntry, InclusionProof, ProposedEntry; its hashedrekord
 -- schema, version 0.0.1).
 use Rattle.std.specs.Prelude.{◌≡◌, ◌↔◌, ℕ, ℤ, List, [], ◌∷◌, codes, map, Option, Some, None, Ok, true, option_map}
 use Rattle.std.specs.Map.{keys_of}
@@ -32,7 +32,7 @@ Has name d value = member_of name d ≡ Some (Some value)
 abbrev pub HasText : List ℕ → Data → List ℕ → Type 0
 HasText name d text = Has name d (string text)
 
--- a value that means this, or, where it is none, nothing or null
+-- a value that means this, or nothing or null if it is `None`
 abbrev pub MayHave : {A : Type 0} → (Data → A → Type 0) → List ℕ → Data → Option A → Type 0
 MayHave Is name d None = member_of name d ≡ Some None
 MayHave Is name d (Some x) = (value : Data) × Has name d value × Is value x

@@ -1,4 +1,4 @@
--- *Entry of a kind*: the object that Rekor logs and takes, of an entry's kind, its version and what it says.
+-- *Entry of a kind*: the object that Rekor logs and takes: an entry's kind, its version and what it says.
 use Rattle.std.specs.Prelude.{ℕ, List, codes}
 use Rattle.sig_json.specs.Data.{Data, object, string, member, no_members}
 

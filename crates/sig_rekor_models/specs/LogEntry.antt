@@ -42,7 +42,7 @@ seen_entry entry = record {
   verification = entry.verification;
 }
 
--- ---- the members; those of other names are ignored, but of the entry itself they are refused
+-- ---- the members; other members are ignored, except that the entry itself may not have any
 
 unfoldable pub attestation_of : Data → Option Attestation
 attestation_of d = optional text_of (codes "dummy") d >>= λ dummy. Some (record { dummy = dummy })
@@ -113,7 +113,7 @@ entry_members_of d = do
 unfoldable pub log_entry_of : Data → Option LogEntry
 log_entry_of d = if has_only entry_names d then entry_members_of d else None
 
--- the entry of a text, none where it is not a document without floats or a member is not as it has to be
+-- the entry of a text, `None` if it is not a document without floats or a member is not as it has to be
 unfoldable pub entry_in : List ℕ → Option LogEntry
 entry_in text = result_ok (record_in log_entry_of text)
 

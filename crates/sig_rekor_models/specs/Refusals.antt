@@ -1,5 +1,5 @@
--- *Causes of the refusals*: what is taken from Rekor's API, and each error of its calls, by the first rule that does not
--- hold. `accepts` is what the checker accepts under the log's key.
+-- *Causes of the refusals*: what is taken from Rekor's API, and each error of its calls, by the first rule that does
+-- not hold. `accepts` is what the checker accepts under the log's key.
 use Rattle.std.specs.Prelude.{◌≡◌, ◌⊎◌, ℕ, Bool, List, Some, None, Ok, Err, ⊤}
 use Rattle.std.specs.List.{AllZip}
 use Rattle.std.specs.Str.{IsUtf8}
@@ -29,13 +29,13 @@ use Rattle.sig_rekor_models.specs.declared.log_info.RekorLogInfo.{RekorLogInfo}
 abbrev pub HasLeaf : LogEntry → List ℕ → Type 0
 HasLeaf entry leaf = canonical_of (body_tree entry.body) ≡ Ok leaf
 
--- *Refusal of a leaf*: the body has no canonical text; or it has, and its inclusion is refused
+-- *Refusal of a leaf*: the body has no canonical text; or it has one, and its inclusion is rejected
 abbrev pub IsLeafRefusal : (List ℕ → List ℕ → Bool) → LogEntry → InclusionProof → SigstoreError → Type 0
 IsLeafRefusal accepts entry proof e =
     (((leaf : List ℕ) → ¬ HasLeaf entry leaf) × (e ≡ UnexpectedError CanonicalBody))
     ⊎ ((leaf : List ℕ) × HasLeaf entry leaf × IsProofRefusal accepts leaf proof e)
 
--- *Refusal of an entry*: it has no proof; or one with a fault; or one without, and its leaf is refused
+-- *Refusal of an entry*: it has no proof; or one with a fault; or one without a fault, and its leaf is rejected
 abbrev pub IsEntryRefusal : (List ℕ → List ℕ → Bool) → LogEntry → SigstoreError → Type 0
 IsEntryRefusal accepts entry e =
     ((entry.verification.inclusion_proof ≡ None) × (e ≡ UnexpectedError ProofMissing))
@@ -58,7 +58,7 @@ pub record IsConsistencyOf (raw : RekorConsistencyProof) (proof : ConsistencyPro
   pub root : IsHashOf raw.root_hash proof.root_hash
   pub hashes : AllZip IsHashOf raw.hashes proof.hashes
 
--- *Fault of a consistency proof*: of the root; or the root is a hash, and it is that of the hashes
+-- *Fault of a consistency proof*: that of the root; or the root is a hash, and the fault is that of the hashes
 abbrev pub IsConsistencyFault : RekorConsistencyProof → SigstoreError → Type 0
 IsConsistencyFault raw e =
     IsHashFault RootLength raw.root_hash e ⊎ (IsHashText raw.root_hash × IsHashesFault raw.hashes e)
@@ -75,11 +75,11 @@ IsGrowthRefusal accepts head old_size old_root proof e =
 
 -- ---- a public key
 
--- *Text of a key*: the UTF-8 that its base64 is of
+-- *Text of a key*: the UTF-8 that its base64 encodes
 abbrev pub IsKeyText : List ℕ → List ℕ → Type 0
 IsKeyText coded text = OfBytes coded (λ bytes. (bytes ≡ text) × IsUtf8 bytes)
 
--- *Fault of a key*: no base64; or the base64 of bytes that are not UTF-8
+-- *Fault of a key*: it is not base64, or is base64 of bytes that are not UTF-8
 abbrev pub IsKeyFault : List ℕ → SigstoreError → Type 0
 IsKeyFault coded e =
     (¬ OfBytes coded (λ bytes. ⊤) × (e ≡ Base64DecodeError))

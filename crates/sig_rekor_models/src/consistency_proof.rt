@@ -41,12 +41,12 @@ impl ConsistencyProof {
         ConsistencyProof { root_hash, hashes }
     }
 
-    /// Returns the proof that the API's one is. Whether it proves anything is not asked.
+    /// Returns the proof that the API's object is. It does not check whether the proof holds.
     ///
     /// Errors, the first that applies:
     /// - `HexDecodeError`, or `UnexpectedError` of `RootLength`: the root hash is not 64 hexadecimal digits, as of
     ///   [`decode_hash`];
-    /// - `HexDecodeError`, or `UnexpectedError` of `HashLength` with its index: the same of the first hash that is
+    /// - `HexDecodeError`, or `UnexpectedError` of `HashLength` with its index: the same for the first hash that is
     ///   not.
     ///
     /// `laws::api_consistency_proofs` says when each comes.

@@ -98,7 +98,7 @@ impl Spec {
     ghost use Rattle.sig_json.specs.Tree.{document_tree};
     ghost use Rattle.sig_rekor_models.specs.HashedrekordTree.{spec_json};
 
-    /// What is said by this signature over this data.
+    /// Returns what this signature over this data says.
     pub fn new(signature: Signature, logged_data: Data) -> Self
         ensures { result ≡ record { signature = signature; logged_data = logged_data } }
     {

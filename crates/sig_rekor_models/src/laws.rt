@@ -189,8 +189,8 @@ pub fn default_algorithm() -> AlgorithmKind
 
 /// A text is read as a log entry if and only if it is a document of the entry's members, each under its name, and of no
 /// others. The JSON of a body, and of an entry to propose, has the members `apiVersion`, `kind` and `spec` alone, each
-/// with its value; and of a `hashedrekord` the spec has `data.hash.algorithm`, `data.hash.value`, `signature.content` and
-/// `signature.publicKey.content` alone. It has no code.
+/// with its value; and the spec of a `hashedrekord` has only `data.hash.algorithm`, `data.hash.value`,
+/// `signature.content` and `signature.publicKey.content`. It has no code.
 pub fn entry_members()
     ensures read { EntriesAreRead }
     ensures bodies { BodiesAreWritten }
@@ -223,8 +223,8 @@ pub fn api_consistency_proofs()
 {}
 
 /// Each error of the check that a log grew comes if and only if the rules before its own hold and its own does not: one
-/// of the head's signatures is accepted over its note; the note is of the head's own tree; and those of RFC 6962 section
-/// 2.1.2, between the older tree and that one. It has no code.
+/// of the head's signatures is accepted over its note; the note is of the head's own tree; and those of RFC 6962
+/// section 2.1.2, between the older tree and that one. It has no code.
 pub fn growth_refusals()
     ensures { (accepts : List ℕ → List ℕ → Bool) (head : LogInfo) (old_size : ℕ) (old_root : List ℕ) (proof : Proof)
         (error : SigstoreError) →
@@ -233,7 +233,7 @@ pub fn growth_refusals()
 {}
 
 /// The text of a public key is the UTF-8 that its base64 is of. `Base64DecodeError` comes if and only if it is not
-/// base64, `Utf8Error` if and only if it is that of other bytes. It has no code.
+/// base64, `Utf8Error` if and only if it is base64 of other bytes. It has no code.
 pub fn key_texts()
     ensures text { (coded text : List ℕ) → (decoded_text coded ≡ Ok text) ↔ IsKeyText coded text }
     ensures fault { (coded : List ℕ) (error : SigstoreError) →

@@ -8,7 +8,7 @@ use sig_rekor::RekorInclusionProof;
 pub struct LogEntry {
     /// The entry's identifier.
     pub uuid: Option<Text>,
-    /// What is kept of the entry beside the log.
+    /// What Rekor keeps for the entry beside the log.
     pub attestation: Option<Attestation>,
     /// What is logged.
     pub body: Body,
@@ -22,7 +22,7 @@ pub struct LogEntry {
     pub verification: Verification,
 }
 
-/// What is kept of an entry beside the log. No member of it is known.
+/// What Rekor keeps for an entry beside the log. None of its members is known here.
 #[derive(Drop, PartialEq, Eq)]
 pub struct Attestation {
     /// A text in place of such members.

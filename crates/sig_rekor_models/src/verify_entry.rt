@@ -22,7 +22,7 @@ impl LogEntry {
     /// Errors, the first that applies:
     /// - `UnexpectedError` of `ProofMissing`: the entry has no inclusion proof;
     /// - `UnexpectedError` of `ProofConversion`: [`InclusionProof::try_from_rekor`] fails;
-    /// - `UnexpectedError` of `CanonicalBody`: the body holds an integer beyond plus or minus 2^53 - 1;
+    /// - `UnexpectedError` of `CanonicalBody`: the body holds an integer outside plus or minus 2^53 - 1;
     /// - those of [`InclusionProof::verify`].
     ///
     /// `laws::entry_refusals` says when each comes.

@@ -72,9 +72,9 @@ HasSctCause c issuer_key_hash (Err OutOfMemory) = Unit {0}
 
 -- The result for an issuer whose SPKI has this SHA-256.
 pub record IsEmbeddedWith (c : Cert) (issuer_key_hash : List ℕ) (result : Result DigitallySigned SCTError) : Type 0 where
-  -- no result without its cause
+  -- the result has its cause
   pub cause : HasSctCause c issuer_key_hash result
-  -- and no cause without its result
+  -- each cause has its result
   pub has : (s : Sct) → HasSct c s → Answers OutOfMemory (λ d. d) result (Ok (signed_with c issuer_key_hash s))
   pub lacks : LacksSct c → Answers OutOfMemory (λ d. d) result (Err (Parsing LeafSCTMissing))
   pub bad : HasBadSct c → Answers OutOfMemory (λ d. d) result (Err (Parsing LeafSCTMalformed))
@@ -91,14 +91,14 @@ IsEmbeddedUnder c (Some issuer) result = IsEmbedded c issuer.spki result
 
 -- ---- the cause of a result of the reader
 
--- of an extension's value
+-- this is the result for an extension's value
 abbrev pub IsSaidOfValue : List ℕ → Result Sct CertificateErrorKind → Type 0
 IsSaidOfValue v (Ok s) = (sct : List ℕ) × (IsSctList v (sct ∷ []) × IsSct sct s)
 IsSaidOfValue v (Err LeafSCTMissing) = (scts : List (List ℕ)) × (IsSctList v scts × (length scts ≢ 1))
 IsSaidOfValue v (Err LeafSCTMalformed) = IsNoList v ⊎ ListsNoSct v
 IsSaidOfValue v (Err IssuerMissing) = ⊥
 
--- of a certificate
+-- this is the result for a certificate
 abbrev pub IsSaidOf : Cert → Result Sct CertificateErrorKind → Type 0
 IsSaidOf c (Ok s) = HasSct c s
 IsSaidOf c (Err LeafSCTMissing) = LacksSct c

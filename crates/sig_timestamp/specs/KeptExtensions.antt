@@ -1,4 +1,4 @@
--- Which extensions the TBSCertificate of the precertificate keeps: RFC 6962 section 3.2. It is said here without a walk
+-- Which extensions the TBSCertificate of the precertificate keeps: RFC 6962 section 3.2. This definition has no walk
 -- that leaves some out: the extensions of the certificate are two lists merged, and the one is kept.
 use Rattle.std.specs.Prelude.{◌≡◌, ◌≢◌, ◌⊎◌, ℕ, List, [], ◌∷◌}
 use Rattle.std.specs.List.{AllByRecursion}
@@ -19,7 +19,7 @@ pub record AreKept (extensions kept : List Extension) : Type 0 where
   pub others : AllByRecursion (λ e. e.oid ≢ sct_list) kept
   pub scts : AllByRecursion (λ e. e.oid ≡ sct_list) lists
 
--- The bytes are the TBSCertificate of a certificate that has every part of this one, and of its extensions all but
+-- The bytes are the TBSCertificate of a certificate that has every part of this one, and its extensions except
 -- those that list SCTs, each with its bytes.
 pub record IsPrecertificate (c : Cert) (tbs : List ℕ) : Type 0 where
   pub extensions : List Extension

@@ -1,5 +1,5 @@
 -- The digitally-signed struct of an SCT, field by field: RFC 6962 section 3.2, in the presentation language of RFC 5246
--- section 4. A number is told by what its octets mean, and not by how they are written.
+-- section 4. A number is defined by what its octets mean, not by how they are written.
 use Rattle.std.specs.Prelude.{◌≡◌, ℕ, ◌+◌, ◌*◌, ◌<◌, List, [], ◌∷◌, ◌++◌, length}
 use Rattle.std.specs.List.{AllByRecursion}
 use Rattle.sig_timestamp.specs.declared.signed.DigitallySigned.{DigitallySigned}
@@ -10,13 +10,13 @@ abbrev pub number_after : ℕ → List ℕ → ℕ
 number_after n [] = n
 number_after n (b ∷ bytes) = number_after (n * 256 + b) bytes
 
--- uint8, uint16, uint24, uint64, section 4.4: the number in so many octets
+-- uint8, uint16, uint24, uint64, section 4.4: the number in `octets` octets
 pub record IsUint (octets : ℕ) (bytes : List ℕ) (number : ℕ) : Type 0 where
   pub len : length bytes ≡ octets
   pub each : AllByRecursion (λ b. b < 256) bytes
   pub means : number_after 0 bytes ≡ number
 
--- opaque<..>, section 4.3: the length of the content in so many octets, and the content
+-- opaque<..>, section 4.3: the length of the content in `octets` octets, then the content
 pub record IsOpaque (octets : ℕ) (bytes content : List ℕ) : Type 0 where
   pub len : List ℕ
   pub counted : IsUint octets len (length content)

@@ -13,7 +13,7 @@ use Rattle.sig_timestamp.specs.SctList.{Sct, IsSct, IsSctList, sct_at, sct_list_
 abbrev pub sct_extensions : Cert → List Extension
 sct_extensions c = with_oid sct_list c.extensions
 
--- The certificate has this SCT: one extension lists SCTs, and it lists this one alone.
+-- The certificate has this SCT: one extension lists SCTs, and it lists only this one.
 pub record HasSct (c : Cert) (s : Sct) : Type 0 where
   pub extension : Extension
   pub text : List ℕ
@@ -21,7 +21,7 @@ pub record HasSct (c : Cert) (s : Sct) : Type 0 where
   pub lists : IsSctList extension.value (text ∷ [])
   pub is : IsSct text s
 
--- The only extension that lists SCTs lists none, or several.
+-- The only extension that lists SCTs does not list exactly one.
 pub record ListsOthers (c : Cert) : Type 0 where
   pub extension : Extension
   pub texts : List (List ℕ)
@@ -29,7 +29,7 @@ pub record ListsOthers (c : Cert) : Type 0 where
   pub lists : IsSctList extension.value texts
   pub others : length texts ≢ 1
 
--- The certificate has not one SCT.
+-- The certificate does not have exactly one SCT.
 abbrev pub LacksSct : Cert → Type 0
 LacksSct c = (length (sct_extensions c) ≢ 1) ⊎ ListsOthers c
 

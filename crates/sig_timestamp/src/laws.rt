@@ -35,7 +35,8 @@ fn is_hash(hash: &[u8; 32])
 }
 
 /// Bytes are the TBSCertificate of the precertificate if and only if they are a TBSCertificate of the same parts, whose
-/// extensions are all of the certificate's but the lists of SCTs, in order, each with its bytes (RFC 6962 section 3.2).
+/// extensions are those of the certificate except the lists of SCTs, in order, each with its bytes (RFC 6962 section
+/// 3.2).
 pub fn precertificates(leaf: &Certificate)
     ensures { (tbs : List ℕ) → IsPrecertificate leaf.now tbs ↔ (tbs ≡ precertificate leaf.now) }
 {

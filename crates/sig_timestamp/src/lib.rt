@@ -8,9 +8,9 @@
 //! ```
 //!
 //! The layers above use three facts. A keyring has the last key of an id among those that it was made of. The SCT of a
-//! certificate is the only one in its only list, or an error says why there is none. `verify_sct` returns `Ok` if and
-//! only if the key of the log's id accepts the signature over the bytes that an SCT signs, which have each other
-//! element of the certificate byte for byte.
+//! certificate is the only one in its only list, or an error says why there is not exactly one. `verify_sct` returns
+//! `Ok` if and only if the key of the log's id accepts the signature over the bytes that an SCT signs, which have each
+//! other element of the certificate byte for byte.
 #![tactic(auto)]
 
 mod embedded;

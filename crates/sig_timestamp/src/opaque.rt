@@ -25,7 +25,7 @@ pub(crate) fn vector_at(bytes: &[u8]) -> Option<(&[u8], &[u8])>
     }
 }
 
-/// Returns so many bytes, and what follows them.
+/// Returns the first `count` bytes, and what follows them.
 #[tactic(auto, unfolding(crate::specs::Vectors::bytes_at))]
 pub(crate) fn bytes_at(bytes: &[u8], count: usize) -> Option<(&[u8], &[u8])>
     ensures { bytes_at count bytes.now ≡ option_map both_now result }

@@ -25,7 +25,7 @@ use std::alloc::{AllocError, Global};
 /// SEQUENCE and of the whole are written anew; if no extension is left, the element is `a3 02 30 00`. Fails only if
 /// out of memory.
 pub fn precert_tbs_der(alloc: Global, leaf: &Certificate) -> Result<Bytes, OutOfMemory>
-    // Every extension but the lists of SCTs is kept, in order, each with its bytes, and every part before them.
+    // Every extension except the lists of SCTs is kept, in order, each with its bytes, and every part before them.
     ensures kept { IfOk result (IsPrecertificate leaf.now) }
     // No other bytes are such a TBSCertificate.
     ensures only { (tbs : List ℕ) → IsPrecertificate leaf.now tbs → IfOk result (λ t. t ≡ tbs) }

@@ -12,12 +12,12 @@ use thiserror::Error;
 /// Why a certificate's SCT was not read.
 #[derive(Clone, Copy, Debug, PartialEq, Eq, Error)]
 pub enum CertificateErrorKind {
-    /// The certificate has not exactly one extension that lists SCTs, or that does not list exactly one.
+    /// The certificate does not have exactly one extension that lists SCTs, or that one does not list exactly one.
     #[error("LeafSCTMissing")]
     LeafSCTMissing,
     /// The chain does not begin with an issuer: it has no certificate there (the first, or the second if the first
     /// only signs precertificates), or [`is_ca`](sig_certificate::is_ca) rejects that one. Whether it issued the
-    /// certificate is not asked.
+    /// certificate is not checked.
     #[error("IssuerMissing")]
     IssuerMissing,
     /// The list of SCTs, or the only SCT in it, is malformed.

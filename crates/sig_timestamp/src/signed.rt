@@ -115,7 +115,7 @@ pub fn signed_bytes(alloc: Global, sct: &DigitallySigned) -> Result<Vec<u8>, Out
     requires extensions { IsShort sct.now.extensions }
     // They are the struct of these fields.
     ensures fields { IfOk result (λ v. IsSignedStruct sct.now v.items) }
-    // No other bytes are.
+    // No other bytes are the struct.
     ensures only { (bytes : List ℕ) → IsSignedStruct sct.now bytes → IfOk result (λ v. v.items ≡ bytes) }
     // The same in one equation.
     ensures exact { IfOk result (λ v. v.items ≡ signed_bytes sct.now) }

@@ -12,7 +12,7 @@ use Rattle.sig_verify.specs.declared.error.VerificationError.TheVariants.{Input}
 abbrev pub most_artifact_bytes : ℕ
 most_artifact_bytes = 2 ^ 40
 
--- all the bytes that were left were taken, at most as many as an artifact may have, and of them this holds
+-- all the bytes that were left were taken, at most as many as an artifact may have, and this holds of them
 pub record OfRest (old new : Option (List ℕ)) (P : List ℕ → Type 0) : Type 0 where
   pub bytes : List ℕ
   pub given : HandsOver old new bytes
@@ -23,7 +23,7 @@ pub record OfRest (old new : Option (List ℕ)) (P : List ℕ → Type 0) : Type
 abbrev pub IsUnread : {A : Type 0} → Result A VerificationError → Type 0
 IsUnread result = (fault : InputFault) × (result ≡ Err (Input fault))
 
--- a hasher holds the bytes that were taken, of which there are so many
+-- a hasher holds the bytes that were taken, and `count` is their number
 pub record IsHashed (old new : Option (List ℕ)) (hasher : Sha256) (count : ℕ) : Type 0 where
   pub bytes : List ℕ
   pub taken : Consumes old new bytes

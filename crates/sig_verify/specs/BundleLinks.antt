@@ -23,31 +23,31 @@ use Rattle.sig_verify.specs.declared.link.Link.{Link}
 use Rattle.sig_verify.specs.declared.link.Link.TheVariants.{Material, Certificate, Leaf, RootInChain, Content, Envelope}
 use Rattle.sig_verify.specs.declared.link.Link.TheVariants.{Entry, Profile}
 
--- ---- the parts that a link may speak of
+-- ---- the parts that a link may be about
 
--- there is material, of which this holds
+-- there is material, and this holds of it
 abbrev pub OfMaterial : Bundle → (VerificationMaterial → Type 0) → Type 0
 OfMaterial b P = (material : VerificationMaterial) × (b.verification_material ≡ Some material) × P material
 
--- it holds a certificate or a chain, as encodings (DER), of which this holds
+-- it holds a certificate or a chain, as encodings (DER), and this holds of them
 abbrev pub OfEncodings : Bundle → (List (List ℕ) → Type 0) → Type 0
 OfEncodings b P =
     OfMaterial b (λ material. (ders : List (List ℕ)) × (encodings_in material.content ≡ Some ders) × P ders)
 
--- each is that of a certificate, and there is a first one; of it and of the further ones this holds
+-- each is that of a certificate, and there is a first one; this holds of it and of the further ones
 abbrev pub OfCertificates : Bundle → (Cert → List Cert → Type 0) → Type 0
 OfCertificates b P =
     OfEncodings b (λ ders. (c : Cert) × (further : List Cert) × AreCertificates ders (c ∷ further) × P c further)
 
--- there is content, of which this holds
+-- there is content, and this holds of it
 abbrev pub OfContent : Bundle → (ContentType → Type 0) → Type 0
 OfContent b P = (content : ContentType) × (b.content ≡ Some content) × P content
 
--- there is one log entry, of which this holds
+-- there is one log entry, and this holds of it
 abbrev pub OfEntry : Bundle → (TransparencyLogEntry → Type 0) → Type 0
 OfEntry b P = OfMaterial b (λ material. (e : TransparencyLogEntry) × (material.tlog_entries ≡ e ∷ []) × P e)
 
--- the media type is that of a version, of which this holds
+-- the media type is that of a version, and this holds of the version
 abbrev pub OfVersion : Bundle → (Version → Type 0) → Type 0
 OfVersion b P = (version : Version) × IsMediaType b.media_type version × P version
 
@@ -76,7 +76,7 @@ IsContentRead (Enveloped envelope) = IsEnvelopeRead envelope
 abbrev pub bundle_links : List Link
 bundle_links = Material ∷ Certificate ∷ Leaf ∷ RootInChain ∷ Content ∷ Envelope ∷ Entry ∷ Profile ∷ []
 
--- what a link asks of a bundle, of which all links before it hold
+-- what a link requires of a bundle, if all links before it hold
 abbrev pub HoldsOfBundle : Bundle → Link → Type 0
 HoldsOfBundle b Material = OfEncodings b (λ ders. Unit {0})
 HoldsOfBundle b Certificate = OfCertificates b (λ c further. AreFew further)

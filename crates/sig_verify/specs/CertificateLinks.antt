@@ -31,20 +31,20 @@ pub record Trust : Type 0 where
   pub anchors : List Cert
   pub points : List ℕ → Option (List ℕ)
 
--- ---- the parts that a link may speak of
+-- ---- the parts that a link may be about
 
 -- A certification path leads from the certificate to a trust anchor, at the first second of its validity. The first
--- issuer in one, the trust anchors in order and then the intermediates, is a certificate of which this holds.
+-- issuer in one, the trust anchors in order and then the intermediates, is a certificate, and this holds of it.
 pub record OfIssuer (accepts : Accepts) (pool : Pool) (c : Cert) (P : Cert → Type 0) : Type 0 where
   pub issuer : IssuerType
   pub first : IsFirstInPath accepts pool c c.not_before issuer
   pub holds : P first.path.certificate
 
--- the certificate has one SCT, of which this holds
+-- the certificate has one SCT, and this holds of it
 abbrev pub OfSct : Cert → (SctType → Type 0) → Type 0
 OfSct c P = (s : SctType) × HasSct c s × P s
 
--- the certificate's key is of a scheme, of which this holds
+-- the certificate's key is of a scheme, and this holds of the scheme
 abbrev pub OfScheme : Cert → (VerifyScheme → Type 0) → Type 0
 OfScheme c P = (scheme : VerifyScheme) × IsKind c.spki (Scheme scheme) × P scheme
 
@@ -92,7 +92,7 @@ IsTimely c =
 abbrev pub certificate_links : List Link
 certificate_links = Issuance ∷ Issuer ∷ Sct ∷ Policy ∷ Key ∷ Signature ∷ Subject ∷ Body ∷ Time ∷ []
 
--- what a link asks of a bundle as checked, of which all links before it hold
+-- what a link requires of a checked bundle, if all links before it hold
 abbrev pub HoldsOfChecked : Checker → PolicyOf → Trust → ArtifactDigest → Bool → Checked → Link → Type 0
 HoldsOfChecked k policy trust d offline c Issuance = HasProfile c.certificate
 HoldsOfChecked k policy trust d offline c Issuer = HasIssuer k trust c

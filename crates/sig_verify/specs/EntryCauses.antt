@@ -20,9 +20,9 @@ use Rattle.sig_verify.specs.LogEntry.{log_entry_answer}
 use Rattle.sig_verify.specs.declared.offline_error.OfflineError.{OfflineError}
 use Rattle.sig_verify.specs.declared.offline_error.OfflineError.TheVariants as error
 
--- ---- the parts that a rule speaks of
+-- ---- the parts that a rule may be about
 
--- the entry names a log, and there is a key of its id, of which this holds
+-- the entry names a log, there is a key of its id, and this holds of the key
 abbrev pub OfFoundKey : LogKeys → TransparencyLogEntry → (List ℕ → Type 0) → Type 0
 OfFoundKey keys e P =
     (id : List ℕ) × (e.log_id ≡ Some id) × (der : List ℕ) × (text_lookup (encode_lower id) keys ≡ Some der) × P der

@@ -25,7 +25,7 @@ use Rattle.sig_verify.specs.declared.link.Link.TheVariants.{Inclusion}
 abbrev pub LogKeys : Type 0
 LogKeys = List (List ℕ × List ℕ)
 
--- ---- the parts that a link may speak of
+-- ---- the parts that a link may be about
 
 -- the entry names a log, there is a key of its id, and the key is a SubjectPublicKeyInfo of this scheme
 pub record HasLogKey (keys : LogKeys) (e : TransparencyLogEntry) (key : VerifyScheme × List ℕ) : Type 0 where
@@ -34,15 +34,15 @@ pub record HasLogKey (keys : LogKeys) (e : TransparencyLogEntry) (key : VerifySc
   pub found : text_lookup (encode_lower id) keys ≡ Some key.1
   pub kind : IsKind key.1 (Scheme key.0)
 
--- the entry's log has a key, of which this holds
+-- the entry's log has a key, and this holds of it
 abbrev pub OfLogKey : LogKeys → TransparencyLogEntry → (VerifyScheme × List ℕ → Type 0) → Type 0
 OfLogKey keys e P = (key : VerifyScheme × List ℕ) × HasLogKey keys e key × P key
 
--- the entry has an inclusion proof, of which this holds
+-- the entry has an inclusion proof, and this holds of it
 abbrev pub OfProof : TransparencyLogEntry → (ProofFields → Type 0) → Type 0
 OfProof e P = (p : ProofFields) × (e.inclusion_proof ≡ Some p) × P p
 
--- its text of a checkpoint is one, of which this holds
+-- the proof's text is a checkpoint, and this holds of it
 abbrev pub OfCheckpoint : TransparencyLogEntry → (ProofFields → SignedCheckpoint → Type 0) → Type 0
 OfCheckpoint e P = OfProof e (λ p. (n : SignedCheckpoint) × OfText p (λ text. IsCheckpoint text n) × P p n)
 
@@ -80,7 +80,7 @@ IsNoteSignedBy spki keys e = OfLogKey keys e (λ key. OfCheckpoint e (λ p n. Is
 abbrev pub IsNoteOf : ProofFields → SignedCheckpoint → Type 0
 IsNoteOf p n = (p.tree_size ≡ pos n.note.size) × (n.note.hash ≡ p.root_hash)
 
--- of index and size, which are numbers of leaves, this holds
+-- index and size are numbers of leaves, and this holds of them
 abbrev pub OfPlace : ProofFields → (ℕ → ℕ → Type 0) → Type 0
 OfPlace p P = (index size : ℕ) × (p.log_index ≡ pos index) × (p.tree_size ≡ pos size) × P index size
 
@@ -110,7 +110,7 @@ pub record IsOfBytes (keys : LogKeys) (e : TransparencyLogEntry) : Type 0 where
 abbrev pub entry_links : List Link
 entry_links = LogKey ∷ Promise ∷ Proof ∷ Checkpoint ∷ NoteKey ∷ NoteMatch ∷ Inclusion ∷ []
 
--- what a link asks of an entry, of which all links before it hold
+-- what a link requires of an entry, if all links before it hold
 abbrev pub HoldsOfEntry : AcceptsSpki → LogKeys → TransparencyLogEntry → Link → Type 0
 HoldsOfEntry spki keys e LogKey = OfLogKey keys e (λ key. Unit {0})
 HoldsOfEntry spki keys e Promise = HasCanonicalPromise e × IsPromisedBy spki keys e

@@ -1,4 +1,4 @@
--- *Held root*: what a trusted root gives at a time, and what is returned of a bundle under it. A root is held of its
+-- *Held root*: what a trusted root gives at a time, and the result of a bundle under it. A root is made from its
 -- text once, and each bundle's result is that of offline verification from the root's text on.
 use Rattle.std.specs.Prelude.{◌≡◌, ℕ, ℤ, true, List, Result, Ok, Err}
 use Rattle.std.specs.Borrow.{Bor}
@@ -77,7 +77,7 @@ abbrev pub IsVerdictUnder : Checker → PolicyOf → Trusted → ArtifactDigest 
 IsVerdictUnder k policy trusted d bundle result =
     (answer : Answer) × IsVerdict k trusted policy d true bundle answer × (result ≡ renamed answer)
 
--- `fulcio` to `inclusion`, whatever trusted root gives what is held
+-- the links `fulcio` to `inclusion`, whatever trusted root gives what is held
 abbrev pub IsOfflineUnder : Checker → PolicyOf → HeldRoot → ArtifactDigest → BundleType → Outcome → Type 0
 IsOfflineUnder k policy held d bundle result =
     (root : TrustedRoot) (now : ℤ) → IsGivenBy root now held → IsOfflineOf k policy root now d bundle result

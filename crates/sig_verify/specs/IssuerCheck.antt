@@ -1,5 +1,5 @@
 -- The links `issuance`, `issuer` and `sct` of a certificate (RFC 5280 section 6.1; RFC 6962 section 3.2), as one
--- result: the first of them that fails, or none.
+-- result: the first of them that fails, or that none does.
 use Rattle.std.specs.Prelude.{ℕ, List, Option, Some, None, option_map, slice_get, Result, Ok, Err}
 use Rattle.sig_base.specs.ResultSteps.{◌>>=◌}
 use Rattle.sig_base.specs.Sha256.{sha256}
@@ -50,7 +50,7 @@ issuer_spki accepts pool c = path_start accepts pool c >>= λ issuer. spki_or_no
 abbrev pub issuer_key_hash : Accepts → Pool → Cert → Result (List ℕ) VerificationError
 issuer_key_hash accepts pool c = issuer_spki accepts pool c >>= λ spki. Ok (sha256 spki)
 
--- that of a trust anchor, of which these are the hashes, or of a further certificate
+-- the issuer is a trust anchor, where these are the hashes of the anchors, or a further certificate
 abbrev pub key_hash_of : List (List ℕ) → List Cert → Issuer → Option (List ℕ)
 key_hash_of hashes further (Anchor index) = slice_get hashes index
 key_hash_of hashes further (Intermediate index) = option_map (λ x. sha256 x.spki) (slice_get further index)
@@ -63,7 +63,7 @@ sct_answer_with accepts ring c key_hash = ready_with c key_hash (sct_of c) >>= �
 abbrev pub sct_answer : AcceptsPoint → List (List ℕ × RingKey) → Cert → List ℕ → Result (Unit {0}) SCTError
 sct_answer accepts ring c spki = sct_answer_with accepts ring c (sha256 spki)
 
--- of a certificate with further ones
+-- for a certificate with further ones
 abbrev pub issued_with : Accepts → AcceptsPoint → Trusted → List Cert → Cert → Result (Unit {0}) VerificationError
 issued_with accepts accepts_point trusted further c = do
   spki ← issuer_spki accepts (pool_over trusted.anchors further) c

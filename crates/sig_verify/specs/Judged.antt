@@ -10,7 +10,7 @@ use Rattle.sig_verify.specs.declared.offline_error.OfflineError.{OfflineError}
 abbrev pub IsOfFirst : (Link → Type 0) → List Link → OfflineError → Type 0
 IsOfFirst Holds links error = (link : Link) × (link_of error ≡ Some link) × FailsFirst Holds links link
 
--- Since only one link is the first that fails, and none is where all hold, this is exact both ways.
+-- Since only one link is the first that fails, and there is none if all hold, this is exact both ways.
 abbrev pub Judged : {A : Type 0} → (Link → Type 0) → List Link → Result A OfflineError → Type 0
 Judged Holds links (Ok _) = AllByRecursion Holds links
 Judged Holds links (Err error) = IsOfFirst Holds links error

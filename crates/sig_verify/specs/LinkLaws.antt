@@ -35,7 +35,7 @@ use Rattle.sig_verify.specs.declared.logged_entry.LoggedEntry.{LoggedEntry}
 use Rattle.sig_verify.specs.declared.offline_error.OfflineError.{OfflineError}
 use Rattle.sig_verify.specs.declared.offline_error.OfflineError.TheVariants.{Bundle as Refused}
 
--- of a log's entry: there is a value if and only if the links `log-key` to `inclusion` hold, and an error is that of
+-- a log's entry gives a value if and only if the links `log-key` to `inclusion` hold, and an error is that of
 -- the first that does not
 abbrev pub EntriesAreJudged : Type 0
 EntriesAreJudged = (spki : AcceptsSpki) (keys : LogKeys) (e : TransparencyLogEntry) → IsOfBytes keys e
@@ -50,7 +50,7 @@ abbrev pub EntriesAreKept : Type 0
 EntriesAreKept = (spki : AcceptsSpki) (keys : LogKeys) (e : TransparencyLogEntry) (offline : LoggedEntry)
     → log_entry_answer spki keys e ≡ Ok offline → IsKept e offline
 
--- of a bundle: its own checks pass if and only if the links `material` to `profile` hold, and an error is that of the
+-- a bundle's own checks pass if and only if the links `material` to `profile` hold, and an error is that of the
 -- first that does not
 pub record BundlesAreJudged : Type 0 where
   pub passed : (b : Bundle) (c : Checked) → IsChecked b (Ok c) → AllByRecursion (HoldsOfBundle b) bundle_links
@@ -65,7 +65,7 @@ abbrev pub renamed : {A : Type 0} → Result A VerificationError → Result A Of
 renamed (Ok x) = Ok x
 renamed (Err error) = Err (of_verification error)
 
--- of a certificate's key: the result is that of the first of the links `key`, `signature` and `subject` that fails
+-- the result for a certificate's key is that of the first of the links `key`, `signature` and `subject` that fails
 abbrev pub ContentsAreJudged : Type 0
 ContentsAreJudged =
     (k : Checker) (policy : PolicyOf) (trust : Trust) (d : ArtifactDigest) (offline : Bool) (c : Checked)
@@ -73,7 +73,7 @@ ContentsAreJudged =
     → Tells (HoldsOfChecked k policy trust d offline c) (Key ∷ Signature ∷ Subject ∷ [])
     (renamed (content_answer k.spki k.prehash d c))
 
--- of the time of the log entry
+-- the result for the time of the log entry
 abbrev pub TimesAreJudged : Type 0
 TimesAreJudged = (k : Checker) (policy : PolicyOf) (trust : Trust) (d : ArtifactDigest) (offline : Bool) (c : Checked)
     → Tells (HoldsOfChecked k policy trust d offline c) (Time ∷ []) (renamed (time_answer c))
@@ -82,7 +82,7 @@ TimesAreJudged = (k : Checker) (policy : PolicyOf) (trust : Trust) (d : Artifact
 abbrev pub trust_of : Trusted → Trust
 trust_of trusted = record { anchors = trusted.anchors; points = point_at trusted.ring }
 
--- of a certificate of which the reader of SCTs says what it has: the result is that of the first of the links
+-- if the reader of SCTs says what a certificate has, the result for it is that of the first of the links
 -- `issuance`, `issuer` and `sct` that fails
 abbrev pub IssuersAreJudged : Type 0
 IssuersAreJudged =
@@ -96,7 +96,7 @@ pub record IsReadCertificate (c : Checked) : Type 0 where
   pub spki : AreBytes c.certificate.spki
   pub sct : IsSaidOf c.certificate (sct_of c.certificate)
 
--- of a bundle that passed its own checks: the result is that of the first of the links `issuance` to `time` that fails
+-- the result for a bundle that passed its own checks is that of the first of the links `issuance` to `time` that fails
 abbrev pub CheckedAreJudged : Type 0
 CheckedAreJudged =
     (k : Checker) (policy : PolicyOf) (trusted : Trusted) (d : ArtifactDigest) (offline : Bool) (c : Checked)
@@ -104,12 +104,12 @@ CheckedAreJudged =
     → (result : Answer) → IsVerdictFromIssuance k trusted policy d offline c result
     → Tells (HoldsOfChecked k policy (trust_of trusted) d offline c) certificate_links (renamed result)
 
--- the bundle passes its own checks, and of what they leave the link holds
+-- the bundle passes its own checks, and the link holds of what they return
 abbrev pub OfPassedBundle : Checker → PolicyOf → Trust → ArtifactDigest → Bool → Bundle → Link → Type 0
 OfPassedBundle k policy trust d offline b link =
     (c : Checked) × IsPassed b c × HoldsOfChecked k policy trust d offline c link
 
--- what the links `material` to `time` ask of a bundle
+-- what the links `material` to `time` require of a bundle
 abbrev pub HoldsOfVerified : Checker → PolicyOf → Trust → ArtifactDigest → Bool → Bundle → Link → Type 0
 HoldsOfVerified k policy trust d offline b Issuance = OfPassedBundle k policy trust d offline b Issuance
 HoldsOfVerified k policy trust d offline b Issuer = OfPassedBundle k policy trust d offline b Issuer
@@ -122,7 +122,7 @@ HoldsOfVerified k policy trust d offline b Body = OfPassedBundle k policy trust 
 HoldsOfVerified k policy trust d offline b Time = OfPassedBundle k policy trust d offline b Time
 HoldsOfVerified k policy trust d offline b link = HoldsOfBundle b link
 
--- of a bundle: the result of a verifier is that of the first of the links `material` to `time` that fails
+-- the result of a verifier for a bundle is that of the first of the links `material` to `time` that fails
 abbrev pub VerdictsAreJudged : Type 0
 VerdictsAreJudged =
     (k : Checker) (policy : PolicyOf) (trusted : Trusted) (d : ArtifactDigest) (offline : Bool) (b : Bundle)
@@ -131,7 +131,7 @@ VerdictsAreJudged =
     → Tells (HoldsOfVerified k policy (trust_of trusted) d offline b) (bundle_links ++ certificate_links)
     (renamed result)
 
--- of a trusted root at a time: there is a verifier only if the links `fulcio`, `anchor` and `ctfe` hold, and an error
+-- a trusted root gives a verifier at a time only if the links `fulcio`, `anchor` and `ctfe` hold, and an error
 -- is that of the first that does not, unless memory ran out
 pub record RootsAreJudged : Type 0 where
   pub made : (root : TrustedRoot) (now : ℤ) (trusted : Trusted)

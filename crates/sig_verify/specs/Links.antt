@@ -35,30 +35,30 @@ pub record Inputs : Type 0 where
   pub digest : ArtifactDigest
   pub bundle : List ℕ
 
--- what is settled outside: the signatures that are genuine, and the policy
+-- what the caller decides: which signatures are genuine, and the policy
 pub record Outside : Type 0 where
   pub checker : Checker
   pub policy : PolicyOf
 
--- ---- the parts that a link may speak of
+-- ---- the parts that a link may be about
 
--- the text is a trusted root, of which this holds
+-- the text is a trusted root, and this holds of it
 abbrev pub OfRoot : Inputs → (TrustedRoot → Type 0) → Type 0
 OfRoot i P = (root : TrustedRoot) × (trusted_root_in i.root ≡ Ok root) × P root
 
--- the text is a bundle, of which this holds
+-- the text is a bundle, and this holds of it
 abbrev pub OfBundle : Inputs → (Bundle → Type 0) → Type 0
 OfBundle i P = (b : Bundle) × (bundle_in i.bundle ≡ Ok b) × P b
 
--- the bundle passes its own checks, and of what they leave this holds
+-- the bundle passes its own checks, and this holds of what they return
 abbrev pub OfPassed : Inputs → (Checked → Type 0) → Type 0
 OfPassed i P = OfBundle i (λ b. (c : Checked) × IsPassed b c × P c)
 
--- of the trust that the root gives and of the checked bundle this holds
+-- this holds of the trust that the root gives and of the checked bundle
 abbrev pub OfChecked : Inputs → (Trust → Checked → Type 0) → Type 0
 OfChecked i P = OfRoot i (λ root. OfTrust root i.now (λ trust. OfPassed i (P trust)))
 
--- of the keys of logs that the root gives and of the bundle's log entry this holds
+-- this holds of the keys of logs that the root gives and of the bundle's log entry
 abbrev pub OfLogged : Inputs → (LogKeys → TransparencyLogEntry → Type 0) → Type 0
 OfLogged i P = OfRoot i (λ root. OfPassed i (λ c. P (rekor_keys root i.now) c.entry))
 
@@ -71,7 +71,7 @@ chain_links =
     ∷ Issuance ∷ Issuer ∷ Sct ∷ Policy ∷ Key ∷ Signature ∷ Subject ∷ Body ∷ Time
     ∷ LogKey ∷ Promise ∷ Proof ∷ Checkpoint ∷ NoteKey ∷ NoteMatch ∷ Inclusion ∷ []
 
--- What a link asks of inputs of which all links before it hold. Nothing has to be fetched: there is no network.
+-- What a link requires of inputs, if all links before it hold. Nothing has to be fetched: there is no network.
 abbrev pub HoldsOf : Outside → Inputs → Link → Type 0
 HoldsOf o i Request = Unit {0}
 HoldsOf o i RootJson = OfRoot i (λ root. Unit {0})

@@ -47,7 +47,7 @@ pub record DirectChain (o : Outside) (i : Inputs) : Type 0 where
 pub record LongerChainsStayValid : Type 0 where
   -- whatever further certificates the bundle has, the chain of trust holds
   pub chain : (o : Outside) (i : Inputs) → DirectChain o i → TrustChain o i
-  -- and its issuer is the trust anchor
+  -- its issuer is the trust anchor
   pub same : (accepts : Accepts) (anchors further : List Cert) (c : Cert) (index : ℕ)
       → IsFirstIssuer accepts c c.not_before anchors index
       → IsFirstInPath accepts (pool_over anchors further) c c.not_before (Anchor index)

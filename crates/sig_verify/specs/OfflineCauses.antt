@@ -1,5 +1,5 @@
--- *Causes of the errors of offline verification*: what an error says that its link does not, in the words of the inputs.
--- That the link is the first that does not hold is said of each by `Judged`.
+-- *Causes of the errors of offline verification*: what an error says that its link does not, in the words of the
+-- inputs. `Judged` says for each that the link is the first that does not hold.
 use Rattle.std.specs.Prelude.{◌≡◌, ℕ, List, Err}
 use Rattle.sig_bundle.specs.BundleRecord.{bundle_in}
 use Rattle.sig_checked_bundle.specs.Refusals.{IsCause}

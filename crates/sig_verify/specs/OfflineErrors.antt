@@ -1,4 +1,4 @@
--- The link of each error of the chain of trust, and the errors of the parts as this one.
+-- The link of each error of the chain of trust, and the error of each part as an error of the chain.
 use Rattle.std.specs.Prelude.{◌≡◌, ◌⊎◌, ℕ, Option, Some, None}
 use Rattle.sig_base.specs.declared.error.SigstoreError.{SigstoreError}
 use Rattle.sig_base.specs.declared.error.SigstoreError.TheVariants as sigstore
@@ -104,7 +104,7 @@ of_fields fields.CheckpointMissing = offline.CheckpointMissing
 of_fields (fields.Checkpoint fault) = offline.ParseCheckpointError fault
 of_fields fields.OutOfMemory = offline.OutOfMemory
 
--- a digest that is handed in is not read
+-- a digest that the caller gives is not read
 abbrev pub of_verification : VerificationError → OfflineError
 of_verification (verification.Input _) = offline.OutOfMemory
 of_verification (verification.Bundle kind) = offline.Bundle kind
@@ -129,7 +129,7 @@ abbrev pub offline_of_pool : PoolError → OfflineError
 offline_of_pool (pool.Anchor place) = offline.Anchor place
 offline_of_pool other = offline.OutOfMemory
 
--- a trusted root that gives no verifier has only these
+-- a trusted root that does not give a verifier has only these errors
 abbrev pub of_root : SigstoreError → OfflineError
 of_root (sigstore.TufMetadataError lacking) = offline.TrustRoot lacking
 of_root (sigstore.CertificatePoolError error) = offline_of_pool error
@@ -137,13 +137,13 @@ of_root other = offline.OutOfMemory
 
 -- ---- which errors there are
 
--- what a trusted root is refused with, or that memory ran out
+-- why a trusted root is rejected, or that memory ran out
 abbrev pub IsRootRefusal : SigstoreError → Type 0
 IsRootRefusal error = (error ≡ sigstore.OutOfMemory)
     ⊎ (((lacking : TrustPart) × (error ≡ sigstore.TufMetadataError lacking))
     ⊎ ((place : ℕ) × (error ≡ sigstore.CertificatePoolError (pool.Anchor place))))
 
--- what a proof is refused with, whose checkpoint was read
+-- why a proof is rejected whose checkpoint was read
 abbrev pub IsProofRefusal : SigstoreError → Type 0
 IsProofRefusal error = (error ≡ sigstore.CheckpointSignatureVerificationError)
     ⊎ (((why : MerkleProofError) × (error ≡ sigstore.ConsistencyProofError why))

@@ -27,12 +27,12 @@ HasEntryOfBytes b =
     (e : TransparencyLogEntry) → only_entry_of b ≡ Some e
     → AreBytes e.canonicalized_body × AreBytes (unwrap_or e.log_id [])
 
--- of the bundle that a text is: its certificate and its only log entry are bytes
+-- the certificate and the only log entry of the bundle that a text is are bytes
 abbrev pub IsOfBundleOfBytes : List ℕ → Type 0
 IsOfBundleOfBytes text =
     (b : Bundle) → bundle_in text ≡ Ok b → HasCertificateOfBytes b × HasEntryOfBytes b
 
--- Of the root and the bundle that the texts are: keys, log id and body are bytes, and the reader of SCTs says what the
+-- For the root and the bundle that the texts are, keys, log id and body are bytes, and the reader of SCTs says what the
 -- certificate has.
 pub record AreReadInputs (i : Inputs) : Type 0 where
   pub checked : (root : TrustedRoot) (b : Bundle) (c : Checked)
@@ -48,7 +48,7 @@ pub record IsOutcomeOf (o : Outside) (i : Inputs) (result : Outcome) : Type 0 wh
   pub tells : Tells (HoldsOf o i) chain_links result
   pub kept : (offline : LoggedEntry) → result ≡ Ok offline → OfPassed i (λ c. IsKept c.entry offline)
 
--- of a trusted root's text, a time, a digest and a bundle's text: so is the result of offline verification, unless
+-- the result of offline verification for a trusted root's text, a time, a digest and a bundle's text is this, unless
 -- memory ran out
 abbrev pub OutcomesAreJudged : Type 0
 OutcomesAreJudged =

@@ -41,7 +41,7 @@ GoesBySteps o i result =
 
 -- ---- a verifier
 
--- A verifier's result of a bundle is `Ok` only if the links `material` to `time` hold, and an error is that of the
+-- A verifier's result for a bundle is `Ok` only if the links `material` to `time` hold, and an error is that of the
 -- first that does not.
 abbrev pub ShowsFirstOfBundle : Outside → Trusted → ArtifactDigest → Bool → Bundle → Answer → Type 0
 ShowsFirstOfBundle o trusted d offline b result =

@@ -35,7 +35,7 @@ OfTrust root now P = (anchors : List Cert) × AreAnchors (authorities root now) 
 abbrev pub root_links : List Link
 root_links = Fulcio ∷ Anchor ∷ Ctfe ∷ []
 
--- what a link asks of a trusted root
+-- what a link requires of a trusted root
 abbrev pub HoldsOfRoot : TrustedRoot → ℤ → Link → Type 0
 HoldsOfRoot root now Fulcio = authorities root now ≢ []
 HoldsOfRoot root now Anchor = AllByRecursion IsSomeAnchor (authorities root now)

@@ -1,4 +1,4 @@
--- The links `material` to `time` of a bundle, as one result: the first of them that fails, or none.
+-- The links `material` to `time` of a bundle, as one result: the first of them that fails, or that none does.
 use Rattle.std.specs.Prelude.{◌≡◌, ◌⊎◌, Bool, true, false, Result, Ok, Err}
 use Rattle.sig_base.specs.declared.checker.SignatureChecker as signature_checker
 use Rattle.sig_checked_bundle.specs.Checked.{Checked, IsChecked}
@@ -36,7 +36,7 @@ checker_of members checker = record {
   cert = members.cert_accepts checker;
 }
 
--- of which certificates a policy holds, and its refusal of each other
+-- the certificates that a policy accepts, and its error for every other one
 pub record PolicyOf : Type 0 where
   pub holds : Cert → Bool
   pub refusal : Cert → Refusal

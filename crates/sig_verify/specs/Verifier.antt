@@ -1,4 +1,4 @@
--- What a verifier trusts, and why there is none.
+-- What a verifier trusts, and why there is no verifier.
 use Rattle.std.specs.Prelude.{◌≡◌, ◌⊎◌, ℕ, List, map, Result, Ok, Err}
 use Rattle.sig_base.specs.Answers.{OrMemory}
 use Rattle.sig_base.specs.Sha256.{sha256}
@@ -28,7 +28,7 @@ CtKeys = Result (List (List ℕ × List ℕ)) SigstoreError
 abbrev pub values_of : List (List ℕ × List ℕ) → List (List ℕ)
 values_of keys = map (λ key. key.1) keys
 
--- the ring has the keys of a map, in the byte order of the log ids: `key_of` is the last of those of one key id
+-- the ring has the keys of a map, in the byte order of the log ids: `key_of` is the last key of one key id
 abbrev pub HasKeys : List (List ℕ × List ℕ) → List (List ℕ × RingKey) → Type 0
 HasKeys keys ring = (id : List ℕ) → point_at ring id ≡ key_of (values_of keys) id
 

@@ -8,10 +8,11 @@ use sha2::{Digest, Sha256};
 use sig_base::{Failed, Source};
 use thiserror::Error;
 
-/// No more bytes of an artifact than this are taken, 2^40 + 1: one more than it may have shows that there are too many.
+/// The number of bytes that are taken at most, 2^40 + 1: one more than an artifact may have, to see that it is too
+/// long.
 const ARTIFACT_LIMIT: u64 = 1_099_511_627_777;
 
-/// How many bytes are asked for at a time.
+/// How many bytes one call of the source may give.
 const ARTIFACT_PIECE: usize = 65_536;
 
 /// Why an artifact could not be read.

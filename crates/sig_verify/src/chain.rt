@@ -142,7 +142,7 @@ impl HeldRoot {
 }
 
 impl Trust {
-    /// The links `material` to `time`. A bundle of which they hold has one entry.
+    /// The links `material` to `time`. If they hold of a bundle, it has one entry.
     fn check_signed<P: VerificationPolicy, C: SignatureChecker>(
         &self,
         bundle: &Bundle,

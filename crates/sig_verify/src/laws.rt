@@ -1,5 +1,5 @@
-//! What the definitions mean: the chain of trust, and what the result of each check says of its links. Each law holds
-//! unless memory runs out, and its calls, where it has any, are laws.
+//! What the definitions mean: the chain of trust, and what the result of each check says about its links. Each law
+//! holds unless memory runs out, and its calls, where it has any, are laws.
 ghost use Rattle.sig_verify.specs.EntryCauses.{EntryErrorsHaveTheirCause};
 ghost use Rattle.sig_verify.specs.LinkLaws.{BundlesAreJudged, CheckedAreJudged, ContentsAreJudged};
 ghost use Rattle.sig_verify.specs.LinkLaws.{EntriesAreJudged, EntriesAreKept, IssuersAreJudged, TimesAreJudged};
@@ -21,8 +21,8 @@ pub fn trust_chain()
     ensures { AllLinksAreTheTrustChain }
 {}
 
-/// Where a trust anchor issued the certificate itself, the chain of trust holds whatever further certificates the bundle
-/// has, and its issuer is that trust anchor; without further certificates there is no other issuer.
+/// Where a trust anchor issued the certificate itself, the chain of trust holds whatever further certificates the
+/// bundle has, and its issuer is that trust anchor; without further certificates there is no other issuer.
 pub fn longer_chains()
     ensures { LongerChainsStayValid }
 {}
@@ -33,17 +33,17 @@ pub fn entries()
     ensures links { EntriesAreJudged }
     ensures kept { EntriesAreKept }
 {
-    // Which members an inclusion proof has, and what is refused of others.
+    // Which members an inclusion proof has, and which others are rejected.
     proofs();
     proof_faults();
 }
 
-/// Each error of `verify_log_entry` comes if and only if it has its cause in the words of the entry: the links and rules
-/// before it hold, and its own rule does not.
+/// Each error of `verify_log_entry` comes if and only if it has its cause in the words of the entry: the links and
+/// rules before it hold, and its own rule does not.
 pub fn causes_of_entry_errors()
     ensures { EntryErrorsHaveTheirCause }
 {
-    // Which members an inclusion proof has, and what is refused of others.
+    // Which members an inclusion proof has, and which others are rejected.
     proofs();
     proof_faults();
 }
@@ -53,7 +53,7 @@ pub fn causes_of_entry_errors()
 pub fn bundles()
     ensures { BundlesAreJudged }
 {
-    // Bytes are at most one certificate; what a bundle's own checks ask, and the cause of each refusal.
+    // Bytes are at most one certificate; what a bundle's own checks require, and the cause of each refusal.
     certificates();
     passed_bundles();
     causes_of_refusals();
@@ -72,7 +72,7 @@ pub fn issuers()
     ensures { IssuersAreJudged }
 {}
 
-/// What a verifier returns of a bundle that passed its own checks is `Ok` if and only if the links `issuance` to
+/// A verifier's result for a bundle that passed its own checks is `Ok` if and only if the links `issuance` to
 /// `time` hold, and else the error of the first that does not.
 pub fn checked_bundles()
     ensures { CheckedAreJudged }
@@ -110,13 +110,13 @@ pub fn outcomes()
     proof_faults();
 }
 
-/// Each error of `verify_offline` comes only with its cause: what it says beside its link, the first that does not hold,
-/// is so of the inputs.
+/// Each error of `verify_offline` comes only with its cause: what it says beside its link, the first that does not
+/// hold, is so of the inputs.
 pub fn causes_of_errors()
     ensures { OfflineErrorsHaveTheirCause }
 {
-    // Bytes are at most one certificate; what a bundle's own checks ask, the cause of each refusal, and what they say of
-    // the links; what the check of a trusted root says of them; and the members of an inclusion proof.
+    // Bytes are at most one certificate; what a bundle's own checks require, the cause of each refusal, and what they
+    // say of the links; what the check of a trusted root says of them; and the members of an inclusion proof.
     certificates();
     passed_bundles();
     causes_of_refusals();

@@ -3,9 +3,10 @@
 //! The layer above uses one fact. [`verify_offline`] returns what the five groups of links make of the two texts, one
 //! after the other: the error of the first that fails, or the entry that a log vouches for, with its proof. Each group
 //! is a call with a contract of its own: the two readers, [`Verifier::new`], the bundle's own checks and
-//! [`Verifier::verify_digest_with`], [`verify_log_entry`]. A [`HeldRoot`] is what many bundles need of one trusted root:
-//! it is read once, and [`HeldRoot::verify`] returns of each bundle what `verify_offline` does. Signatures are genuine if the handed
-//! [`SignatureChecker`](sig_base::SignatureChecker) says so, and every fact here is relative to it.
+//! [`Verifier::verify_digest_with`], [`verify_log_entry`]. A [`HeldRoot`] is what many bundles need of one trusted
+//! root: it is read once, and [`HeldRoot::verify`] returns for each bundle what `verify_offline` does. Signatures are
+//! genuine if the handed [`SignatureChecker`](sig_base::SignatureChecker) says so, and every fact here is relative to
+//! it.
 #![tactic(auto)]
 
 mod artifact;

@@ -2,7 +2,7 @@
 ghost use Rattle.std.specs.Prelude.{◌≡◌};
 ghost use Rattle.sig_verify.specs.Link.{link_name};
 
-/// A link of the chain of trust, in order. Each is asked only if all before it hold.
+/// A link of the chain of trust, in order. Each is checked only if all before it hold.
 #[derive(Clone, Copy, PartialEq, Eq)]
 pub enum Link {
     /// The text is a request; only the program asks it.

@@ -3,7 +3,7 @@
 use sig_bundle::ArtifactDigest;
 use std::alloc::Global;
 
-/// What every link may need beside the document that it is asked of: memory, the digest of the artifact, the policy and
+/// What every link may need beside the document that it is about: memory, the digest of the artifact, the policy and
 /// the checker of signatures.
 #[derive(Drop)]
 pub(crate) struct LinkInputs<'a, P, C> {
@@ -12,6 +12,6 @@ pub(crate) struct LinkInputs<'a, P, C> {
     pub(crate) digest: &'a ArtifactDigest,
     /// What has to hold of the certificate.
     pub(crate) policy: &'a P,
-    /// Who says whether a signature is genuine.
+    /// The checker that says whether a signature is genuine.
     pub(crate) checker: &'a C,
 }

@@ -32,11 +32,11 @@ struct EntryInputs<'a, C> {
 /// Returns the entry's body and its proof with the decoded checkpoint. Errors, the first that applies:
 ///
 /// - `LogIdMissing`: the entry names no log;
-/// - `RekorPublicKeyNotFoundError` with the log id in lower-case hexadecimal: there is no key of it;
+/// - `RekorPublicKeyNotFoundError` with the log id in lower-case hexadecimal: there is no key of this id;
 /// - `KeyParsingError`: the key is not a SubjectPublicKeyInfo (RFC 5280 section 4.1.2.7);
 /// - `PublicKeyUnsupportedAlgorithmError`: it is of a kind that no signature is checked with;
 /// - `PromiseMissing`: the entry has no promise;
-/// - `PromiseInteger`: its time or its index is beyond plus or minus 2^53 - 1;
+/// - `PromiseInteger`: its time or its index is outside plus or minus 2^53 - 1;
 /// - `Promise`: the key did not sign the promise;
 /// - `ProofMissing`: the entry has no inclusion proof;
 /// - `RootLength`, `HashLength`, `TreeSize`, `CheckpointMissing`, `ParseCheckpointError`: the proof cannot be read, as
@@ -63,7 +63,7 @@ pub fn verify_log_entry<C: SignatureChecker>(
     ensures answer { Answers OfflineError.OutOfMemory (λ offline. offline) result
         (log_entry_answer (C.spki_accepts checker.now) log_keys.now entry.now) }
 {
-    // Which members an inclusion proof has, and what is refused of others; body and log id are bytes.
+    // Which members an inclusion proof has, and which others are rejected; body and log id are bytes.
     proofs();
     proof_faults();
     are_owned_bytes(&entry.canonicalized_body);

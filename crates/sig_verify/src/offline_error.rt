@@ -55,7 +55,7 @@ pub enum OfflineError {
     PublicKeyUnsupportedAlgorithmError,
     /// The entry has no promise.
     PromiseMissing,
-    /// The entry's time or index is beyond plus or minus 2^53 - 1.
+    /// The entry's time or index is outside plus or minus 2^53 - 1.
     PromiseInteger,
     /// The log did not sign the promise.
     Promise,
@@ -219,7 +219,7 @@ pub(crate) fn json_error(part: Part, error: JsonError) -> OfflineError
     }
 }
 
-/// The error of a bundle that a verifier refused for a digest that was handed in, so that no artifact was read.
+/// The error of a bundle that a verifier refused for a given digest, so that no artifact was read.
 pub(crate) fn verification_error(error: VerificationError) -> OfflineError
     requires { OrMemory VerificationError.OutOfMemory error (IsSome (link_of (of_verification error))) }
     ensures { result ≡ of_verification error }

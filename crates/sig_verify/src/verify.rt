@@ -26,9 +26,11 @@ impl Verifier {
     ///
     /// - `Bundle`, as of [`CheckedBundle::try_from_bundle`];
     /// - `Certificate` of `Malformed`: the certificate does not have the profile of one that a trust anchor may issue;
-    /// - `Certificate` of `VerificationFailed`: no certification path (RFC 5280 section 6.1) leads from it, at the first
+    /// - `Certificate` of `VerificationFailed`: no certification path (RFC 5280 section 6.1) leads from it, at the
+    ///   first
     ///   second of its validity, over the further certificates of the bundle to a trust anchor;
-    /// - `Certificate` of `Sct`: no Certificate Transparency log vouches for it under the key of the first issuer in such
+    /// - `Certificate` of `Sct`: no Certificate Transparency log vouches for it under the key of the first issuer in
+    ///   such
     ///   a path, the trust anchors in order and then the further certificates;
     /// - `Policy` of the policy's refusal;
     /// - `Signature` of `AlgoUnsupported`: its key is of a kind that no signature is checked with;
@@ -81,7 +83,8 @@ impl Verifier {
             self.now (policy_of P.VerificationPolicy inputs.now.policy.now)
             inputs.now.digest.now offline bundle.now result) }
     {
-        // Bytes are at most one certificate, and the bundle's are bytes; what its own checks ask, and say of the links.
+        // Bytes are at most one certificate, and the bundle's are bytes; what its own checks require, and say about the
+        // links.
         certificates();
         passed_bundles();
         bundles();

@@ -1,4 +1,4 @@
-//! Whether a bundle verifies of an artifact, which is handed in by its SHA-256 digest or by its bytes.
+//! Whether a bundle verifies for an artifact, which is given by its SHA-256 digest or by its bytes.
 ghost use Rattle.std.specs.Prelude.{◌≡◌, ◌⊎◌, ◌+◌, ◌≤◌, Err, IsErrOf};
 ghost use Rattle.sig_base.specs.Answers.{UnlessMemory};
 ghost use Rattle.sig_base.specs.Sha256.{sha256};
@@ -57,7 +57,7 @@ impl Verifier {
             self.now (Sha256Digest (sha256 bytes)) offline bundle.now result)) }
         ensures long { IsErrOf result (VerificationError.Input InputFault.TooLong)
             → TookCount (S.left input.old) (S.left input.new) (most_artifact_bytes + 1) }
-        // With any other result fewer were taken.
+        // With every other result fewer were taken.
         ensures short { (result ≡ Err (VerificationError.Input InputFault.TooLong))
             ⊎ TookAtMost most_artifact_bytes (S.left input.old) (S.left input.new) }
         ensures fault { IsErrOf result (VerificationError.Input InputFault.Fault)

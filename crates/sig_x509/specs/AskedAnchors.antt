@@ -1,5 +1,5 @@
--- *Asked anchors*: which trust anchors a checker is asked about. What it says of an anchor is told by the subject and
--- the SPKI, so of those that have both in common it is asked about the first alone.
+-- *Asked anchors*: which trust anchors a checker is asked about. What it says of an anchor depends on the subject and
+-- the SPKI alone, so it is asked only about the first of those that share both.
 use Rattle.std.specs.Prelude.{◌≡◌, ℕ, ◌<◌, ◌≤◌, List, Bool, false, Option, Some, None, slice_get, Contains, length}
 use Rattle.std.specs.List.{All, AllPairs}
 use Rattle.sig_certificate.specs.Certificate.{Cert}

@@ -45,7 +45,7 @@ last_named listed (suc count) name =
 abbrev pub named_in : BTreeMap (Bor (List ℕ)) ℕ → List ℕ → Option ℕ
 named_in last name = get_by (λ k. slice_cmp nat_cmp name k.now) last
 
--- `last` has the last one of each name, and `earlier` at each index the one before it that has the same name
+-- `last` has the last one of each name, and `earlier` has at each index the one before it of the same name
 pub record IsIndexOf (listed : List (Option Cert)) (count : ℕ) (last : BTreeMap (Bor (List ℕ)) ℕ)
     (earlier : List (Option ℕ)) : Type 0 where
   pub names : (name : List ℕ) → named_in last name ≡ last_named listed count name

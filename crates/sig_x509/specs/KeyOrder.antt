@@ -1,5 +1,5 @@
--- *Key order*: the trust anchors that a checker is asked about, in the order of SPKI and subject, and the first that has a
--- subject and one of some keys.
+-- *Key order*: the trust anchors that a checker is asked about, in the order of SPKI and subject, and the first that
+-- has a subject and one of some keys.
 use Rattle.std.specs.Prelude.{◌≡◌, ◌<◌, ◌≤◌, ℕ, List, [], Bool, ◌&&◌, Option, Some, None, length, map, slice_get, nat_le}
 use Rattle.std.specs.Prelude.{IsPermutation, slice_range, if◌then◌else◌}
 use Rattle.std.specs.List.{AllByRecursion, list_any}
@@ -37,7 +37,7 @@ abbrev pub Ascends : List Cert → List ℕ → Type 0
 Ascends anchors order =
     IsSortedBy (λ one other. is_lt (option_cmp signer_order (signer_at anchors one) (signer_at anchors other))) order
 
--- the indices that are asked, in that order
+-- the indices of the asked anchors, in that order
 pub record IsKeyOrder (anchors : List Cert) (order : List ℕ) : Type 0 where
   pub asked : List ℕ
   pub are_asked : AreAsked anchors asked
@@ -46,7 +46,7 @@ pub record IsKeyOrder (anchors : List Cert) (order : List ℕ) : Type 0 where
 
 -- ---- copies of the SPKIs
 
--- the subject and the SPKI of a trust anchor, empty ones if there is none
+-- the subject and the SPKI of a trust anchor, empty if there is no such anchor
 abbrev pub subject_in : Option Cert → List ℕ
 subject_in None = []
 subject_in (Some x) = x.subject
@@ -68,7 +68,7 @@ AreCopies anchors buffer places = AllByRecursion (IsCopy anchors buffer) places
 abbrev pub indices_of : KeyOrder → List ℕ
 indices_of keys = map (λ place. place.index) keys.places.items
 
--- the indices that are asked, in that order, with copies of the SPKIs
+-- the indices of the asked anchors, in that order, with copies of the SPKIs
 pub record HoldsKeys (anchors : List Cert) (keys : KeyOrder) : Type 0 where
   pub order : IsKeyOrder anchors (indices_of keys)
   pub copies : AreCopies anchors keys.buffer.items keys.places.items

@@ -67,7 +67,7 @@ pub record HasPath (accepts : Accepts) (pool : Pool) (c : Cert) (t : ℤ) (issue
   pub path : IsPath accepts pool c t over anchor
   pub is : IsIssuerIn issuer certificate over anchor
 
--- there is none
+-- there is no issuer in a path
 abbrev pub HasNoPath : Accepts → Pool → Cert → ℤ → Type 0
 HasNoPath accepts pool c t = (issuer : Issuer) → ¬ HasPath accepts pool c t issuer
 
@@ -87,7 +87,7 @@ abbrev pub IsNext : Cert → List Cert → Cert → Cert → Cert → Type 0
 IsNext c [] anchor y x = (y ≡ c) × (x ≡ anchor)
 IsNext c (z ∷ zs) anchor y x = ((y ≡ c) × (x ≡ z)) ⊎ IsNext z zs anchor y x
 
--- Only then does the checker's word on the signature of y under the key of x matter: c has the profile, and a path
+-- The checker's result for the signature of y under the key of x matters only if c has the profile, and a path
 -- that would lead from it to a trust anchor, if every signature were genuine, has x after y. So the issuer of y is the
 -- subject of x.
 pub record IsAskedOn (pool : Pool) (c : Cert) (t : ℤ) (y x : Cert) : Type 0 where

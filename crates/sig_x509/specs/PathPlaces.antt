@@ -1,5 +1,5 @@
--- A path seen place by place: the path length that a certificate needs where others come before it, the last certificate
--- before the trust anchor, and a path that goes over none. RFC 5280 sections 4.2.1.9 and 6.1.
+-- A path seen place by place: the path length that a certificate needs where others come before it, the last
+-- certificate before the trust anchor, and a path that goes over none. RFC 5280 sections 4.2.1.9 and 6.1.
 use Rattle.std.specs.Prelude.{◌≡◌, ◌⊎◌, ℕ, ◌<◌, ◌≤◌, ℤ, List, [], ◌∷◌, slice_get, Contains, Bool, Some, Ok}
 use Rattle.sig_certificate.specs.declared.values.BasicConstraints.{BasicConstraints as Constraints}
 use Rattle.sig_certificate.specs.Certificate.{Cert}
@@ -18,18 +18,18 @@ abbrev pub HasPathLength : Cert → ℕ → Type 0
 HasPathLength x most =
     (b : Bool × Constraints) × (constraints x ≡ Ok (Some b)) × (b.1.path_len ≡ Some most)
 
--- x has no path length, or one of at least so many
+-- x has no path length, or one of at least this number
 abbrev pub HasRoomFor : Cert → ℕ → Type 0
 HasRoomFor x others =
     ((most : ℕ) → ¬ HasPathLength x most) ⊎ ((most : ℕ) × HasPathLength x most × (others ≤ most))
 
 -- ---- a path, one certificate longer
 
--- the pool in which this certificate alone is trusted
+-- the pool in which only this certificate is trusted
 abbrev pub trusting : Pool → Cert → Pool
 trusting pool x = record { anchors = x ∷ []; intermediates = pool.intermediates }
 
--- The intermediate x, with so many others between it and the leaf, can be the last before the trust anchor.
+-- The intermediate x, with this number of others between it and the leaf, can be the last before the trust anchor.
 pub record IsLast (accepts : Accepts) (pool : Pool) (t : ℤ) (others : ℕ) (x anchor : Cert) : Type 0 where
   pub given : Contains pool.intermediates (Some x)
   pub few : others < 6

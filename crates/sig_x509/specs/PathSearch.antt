@@ -36,7 +36,7 @@ abbrev pub allows : Option ℕ → ℕ → Bool
 allows None others = true
 allows (Some most) others = nat_le others most
 
--- x can be in a path, at the place with so many others before it
+-- x can be in a path, at the place with `others` before it
 abbrev pub can_stand : ℤ → ℕ → Cert → Bool
 can_stand t others x = may_issue t x && allows (most_between (constraints x)) others
 

@@ -15,11 +15,11 @@ use Rattle.sig_x509.specs.declared.issuer.Issuer.{Issuer}
 abbrev pub Meant : Result Issuer PoolError → Result Issuer PoolError → Type 0
 Meant r m = Answers OutOfMemory (λ (issuer : Issuer). issuer) r m
 
--- the bytes are a certificate, of which this holds
+-- the bytes are a certificate, and this holds of it
 abbrev pub OfCertificate : List ℕ → (Cert → Type 0) → Type 0
 OfCertificate der P = (c : Cert) × IsCertificate der c × P c
 
--- no certificate with the profile
+-- the bytes are not a certificate with the profile
 abbrev pub HasNoProfile : List ℕ → Type 0
 HasNoProfile der = (c : Cert) → IsCertificate der c → ¬ HasProfile c
 
@@ -32,7 +32,7 @@ IsIssuedText accepts pool der t issuer =
 abbrev pub IsUnissuedText : Accepts → Pool → List ℕ → ℤ → Type 0
 IsUnissuedText accepts pool der t = OfCertificate der (λ c. HasProfile c × HasNoPath accepts pool c t)
 
--- the bytes are one certificate, whose result this is; or none, and it is `Malformed`; or memory ran out
+-- the bytes are one certificate, and this is its result; or they are not, and it is `Malformed`; or memory ran out
 abbrev pub IsJudgedText : Accepts → Pool → List ℕ → ℤ → Result Issuer PoolError → Type 0
 IsJudgedText accepts pool der t r =
     ((c : Cert) × IsOnlyCertificate der c × Meant r (path_issuer accepts pool c t))

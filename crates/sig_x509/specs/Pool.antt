@@ -9,7 +9,7 @@ use Rattle.sig_x509.specs.Issuance.{IsFirstNoAnchor}
 use Rattle.sig_x509.specs.declared.issuer.Issuer.{Issuer}
 use Rattle.sig_x509.specs.declared.issuer.Issuer.TheVariants.{Anchor as ByAnchor, Intermediate as ByIntermediate}
 
--- the trust anchors, and the intermediates, each at its index: none where the bytes are not a certificate
+-- the trust anchors, and the intermediates, each at its index: `None` where the bytes are not a certificate
 pub record Pool : Type 0 where
   pub anchors : List Cert
   pub intermediates : List (Option Cert)
@@ -48,7 +48,7 @@ IsBefore (ByIntermediate i) (ByIntermediate j) = i < j
 
 -- ---- how a pool is made
 
--- what the bytes of an intermediate are: this certificate, or none
+-- the bytes of an intermediate are this certificate, or not a certificate
 abbrev pub IsReadAs : List ℕ → Option Cert → Type 0
 IsReadAs der None = (c : Cert) → ¬ IsCertificate der c
 IsReadAs der (Some c) = IsCertificate der c
@@ -57,7 +57,7 @@ IsReadAs der (Some c) = IsCertificate der c
 abbrev pub AreReadAs : List (List ℕ) → List (Option Cert) → Type 0
 AreReadAs ders intermediates = AllZip IsReadAs ders intermediates
 
--- the intermediates of a pool
+-- the greatest number of intermediates of a pool
 abbrev pub most_intermediates : ℕ
 most_intermediates = 1024
 

@@ -1,5 +1,5 @@
--- The signatures of certificates that lie on a path which would hold if every signature were genuine, by tables over the
--- place in a path and the certificate.
+-- The signatures of certificates that lie on a path which would hold if every signature were genuine, by tables over
+-- the place in a path and the certificate.
 use Rattle.std.specs.Prelude.{◌≡◌, ◌⊎◌, ℕ, zero, suc, ◌-◌, ℤ, List, [], ◌∷◌, ◌++◌, length, map, get_or, Bool, true, false}
 use Rattle.std.specs.Prelude.{◌&&◌, ◌||◌, ◌↔◌, Contains}
 use Rattle.std.specs.List.{filter, list_any}
@@ -34,7 +34,7 @@ any_both one other = any_below (length one) (λ k. bit one k && bit other k)
 abbrev pub is_named : Cert → Cert → Bool
 is_named y x = is_signed_by every_signature y x
 
--- x can be at the place with so many others before it, reached from c
+-- x can be at the place with this number of others before it, reached from c
 unfoldable pub is_reached : List Cert → Cert → ℤ → ℕ → Cert → Bool
 is_reached further c t zero x = can_stand t zero x && is_issued every_signature c t x
 is_reached further c t (suc others) x =
@@ -55,7 +55,7 @@ pub record SignedOne : Type 0 where
   pub certificate : Cert
   pub next : List Bool
 
--- a certificate that is trusted, or for each number of places left whether it leads to a trust anchor in so many
+-- a certificate that is trusted, or for each number of places left whether it leads to a trust anchor in that many
 pub record SignerOne : Type 0 where
   pub certificate : Cert
   pub trusted : Bool
@@ -94,7 +94,7 @@ further_signer anchors further t x = record {
 abbrev pub all_signers : List Cert → List Cert → ℤ → List SignerOne
 all_signers anchors further t = map anchor_signer anchors ++ map (further_signer anchors further t) further
 
--- both can be at the place with so many others before it
+-- both can be at the place with this number of others before it
 abbrev pub meets_at : List Bool → Bool → List Bool → ℕ → Bool
 meets_at next trusted up others = bit next others && (trusted || bit up (6 - others))
 
@@ -109,18 +109,18 @@ pub record SignedUnder : Type 0 where
   pub certificate : Cert
   pub signers : List Cert
 
--- of these signers
+-- the signatures of these signers
 abbrev pub signed_under : List SignerOne → SignedOne → SignedUnder
 signed_under xs y = record {
   certificate = y.certificate;
   signers = map (λ x. x.certificate) (filter (may_sign y) xs);
 }
 
--- of the trust anchors in order, and then the intermediates
+-- the signatures of the trust anchors in order, and then the intermediates
 abbrev pub under_all : List Cert → List Cert → ℤ → SignedOne → SignedUnder
 under_all anchors further t y = signed_under (all_signers anchors further t) y
 
--- ---- what was borrowed
+-- ---- the borrowed values
 
 abbrev pub seen_signed : Signed → SignedOne
 seen_signed y = record { certificate = y.certificate.now; next = y.next }
@@ -158,12 +158,12 @@ abbrev pub node_reached : ℕ → List Bool → Node → Bool
 node_reached zero prev node = node_stands zero node && node.issues
 node_reached (suc others) prev node = node_stands (suc others) node && any_both node.signed prev
 
--- with so many places left, from there on
+-- with this number of places left, from there on
 unfoldable pub up_at : List Node → ℕ → List Bool
 up_at nodes zero = map (λ node. false) nodes
 up_at nodes (suc left) = map (node_leads (5 - left) (up_at nodes left)) nodes
 
--- below a signer with so many others before it
+-- below a signer with this number of others before it
 unfoldable pub down_at : List Node → ℕ → List Bool
 down_at nodes zero = map (λ node. false) nodes
 down_at nodes (suc others) = map (node_reached others (down_at nodes others)) nodes
@@ -190,8 +190,8 @@ IsLaterStep (z ∷ zs) anchor trusted y x =
 abbrev pub OfPossiblePath : Pool → Cert → ℤ → (List Cert → Cert → Type 0) → Type 0
 OfPossiblePath pool c t P = (over : List Cert) × (anchor : Cert) × IsPath every_signature pool c t over anchor × P over anchor
 
--- a law of the definitions: what the tables say of the leaf, and of an intermediate, under the key of a trust anchor and of
--- an intermediate, is that a path which would hold has the signature
+-- a law of the definitions: what the tables say of the leaf, and of an intermediate, under the key of a trust anchor
+-- and of an intermediate, is that a path which would hold has the signature
 pub record SignaturesAreOfPaths : Type 0 where
   pub leaf_under_anchor : (anchors further : List Cert) (c : Cert) (t : ℤ) (x : Cert) → Contains anchors x
       → (may_sign (the_leaf c t) (anchor_signer x) ≡ true)

@@ -10,7 +10,7 @@ use Rattle.sig_x509.specs.PathSearch.{allows, is_rooted, most_between}
 use Rattle.sig_x509.specs.Pool.{Pool, intermediate_in}
 use Rattle.sig_x509.specs.declared.links.Link.{Link}
 
--- what is known of an intermediate: nobody signed one that may not issue
+-- what is known of an intermediate: an intermediate that may not issue has no signers
 abbrev pub IsLinkOf : Accepts → Pool → List (Option Cert) → Option Cert → Link → Type 0
 IsLinkOf accepts pool listed None link = (link.rooted ≡ false) × (link.signers.items ≡ [])
 IsLinkOf accepts pool listed (Some x) link =
@@ -36,7 +36,7 @@ AreRooted accepts pool listed links = (place : ℕ) (x : Cert) (link : Link)
 abbrev pub leads_next : List Bool → ℕ → Bool
 leads_next row k = get_or row k false
 
--- an intermediate leads to a trust anchor from the place with so many others before it
+-- an intermediate leads to a trust anchor from the place with this number of others before it
 abbrev pub link_leads : ℕ → List Bool → Link → Bool
 link_leads others row link =
     allows link.path_len others && (link.rooted || list_any (leads_next row) link.signers.items)
@@ -44,7 +44,7 @@ link_leads others row link =
 abbrev pub row_of : ℕ → List Bool → List Link → List Bool
 row_of others row links = map (link_leads others row) links
 
--- for the place with so many others before it, where at most `left` places are left
+-- for the place with this number of others before it, where at most `left` places are left
 unfoldable pub rows : List Link → ℕ → ℕ → List Bool
 rows links zero others = map (λ link. false) links
 rows links (suc left) others = row_of others (rows links left (suc others)) links

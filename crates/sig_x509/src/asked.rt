@@ -1,4 +1,4 @@
-//! Which trust anchors a checker is asked about: of those with one subject and one key, the first alone.
+//! Which trust anchors a checker is asked about: only the first of those with one subject and one key.
 
 ghost use Rattle.std.specs.Prelude.{◌≡◌, ◌+◌, ◌≤◌, length, IfOk};
 ghost use Rattle.std.specs.List.{find};

@@ -1,4 +1,5 @@
-//! Trust anchors by subject and key: a list of accepted keys is looked up among them, and not compared with every trust anchor.
+//! Trust anchors by subject and key: a list of accepted keys is looked up among them, and not compared with every trust
+//! anchor.
 
 ghost use Rattle.std.specs.Prelude.{◌≡◌, ◌<◌, ◌≤◌, position};
 ghost use Rattle.sig_x509.specs.KeyOrder.{HoldsKeys, has_key, has_some_key, lesser};
@@ -12,8 +13,8 @@ use std::cmp::Ordering;
 /// certificate of a bundle has some.
 const FIRST_STEP: usize = 8;
 
-/// Returns the index of the first trust anchor with this subject and one of these SPKIs. Each key is looked for from where
-/// the one before it is or would be: keys that come in the order of the trust anchors are found near each other.
+/// Returns the index of the first trust anchor with this subject and one of these SPKIs. Each key is looked for from
+/// where the one before it is or would be: keys that come in the order of the trust anchors are found near each other.
 pub(crate) fn first_of_keys(
     anchors: &[Certificate],
     order: &KeyOrder,
@@ -44,8 +45,8 @@ struct Found {
     place: usize,
 }
 
-/// Returns the index of the first trust anchor with this subject and SPKI, and the place near which the next key may be.
-/// Looks at `near`, then further away in steps that double, until the signer is between two places, and then in the
+/// Returns the index of the first trust anchor with this subject and SPKI, and the place near which the next key may
+/// be. Looks at `near`, then further away in steps that double, until the signer is between two places, and then in the
 /// middle of these.
 fn first_of_key(
     anchors: &[Certificate],
@@ -84,7 +85,7 @@ fn first_of_key(
     }
 }
 
-/// Returns the place that is wanted if it is from `low` to before `high`, and else the one in the middle.
+/// Returns the wanted place if it is from `low` to before `high`, else the place in the middle.
 fn place_in(low: usize, high: usize, wanted: usize) -> usize
     requires { low < high }
     ensures from { low ≤ result }

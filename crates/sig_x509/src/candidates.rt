@@ -7,7 +7,7 @@ use crate::issuance::may_issue;
 use sig_base::OutOfMemory;
 use sig_certificate::Certificate;
 
-/// Adds the intermediates of a pool that may issue at the time, and in place of each other one that it is absent. Fails
+/// Adds the intermediates of a pool that may issue at the time, and marks each other one as absent. Fails
 /// only if out of memory.
 #[tactic(auto, using(crate::proofs::SeenCandidates::pushed_laws))]
 pub(crate) fn push_intermediates<'a>(

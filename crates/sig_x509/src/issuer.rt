@@ -1,4 +1,4 @@
-//! Who issued a certificate: a trust anchor, or an intermediate.
+//! What issued a certificate: a trust anchor, or an intermediate.
 
 /// A certificate that may have issued another, by its index.
 #[derive(Clone, Copy, Debug, PartialEq, Eq)]

@@ -1,5 +1,6 @@
-//! `KeyOrder`: the trust anchors that a checker is asked about, in an order in which one is found by its name and key. Copies of
-//! their SPKIs are side by side in that order, since a search that goes to each certificate mostly waits for memory.
+//! `KeyOrder`: the trust anchors that a checker is asked about, in an order in which one is found by its name and key.
+//! Copies of their SPKIs are side by side in that order, since a search that goes to each certificate mostly waits for
+//! memory.
 
 ghost use Rattle.std.specs.Prelude.{◌≡◌, ◌<◌, length, Some, IfOk, IsPermutation, slice_get, slice_index};
 ghost use Rattle.std.specs.Option.{option_cmp};
@@ -31,8 +32,8 @@ pub(crate) struct KeyOrder {
 }
 
 impl KeyOrder {
-    /// Returns the order of the trust anchors at these indices, which are those that are asked about. Fails only if out of
-    /// memory.
+    /// Returns the order of the trust anchors at these indices, which are those that are asked about. Fails only if out
+    /// of memory.
     pub(crate) fn new(
         alloc: Global,
         anchors: &[Certificate],
@@ -60,8 +61,8 @@ impl KeyOrder {
         self.places[place].index
     }
 
-    /// Compares the SPKI of the trust anchor at a place with another, and where they are equal the subject: thousands of
-    /// trust anchors may have one name.
+    /// Compares the SPKI of the trust anchor at a place with another, and where they are equal the subject: thousands
+    /// of trust anchors may have one name.
     pub(crate) fn compare(
         &self,
         place: usize,
@@ -79,8 +80,8 @@ impl KeyOrder {
     }
 }
 
-/// Returns the indices of the trust anchors that are asked about, in the order of SPKI and subject. Fails only if out of
-/// memory.
+/// Returns the indices of the trust anchors that are asked about, in the order of SPKI and subject. Fails only if out
+/// of memory.
 fn key_order_of(
     alloc: Global,
     anchors: &[Certificate],
@@ -116,8 +117,8 @@ fn order_between(anchors: &[Certificate], one: usize, other: usize) -> Ordering
     }
 }
 
-/// Compares the SPKI of the trust anchor at an index with another, and where they are equal the subject. An index that none
-/// has comes first.
+/// Compares the SPKI of the trust anchor at an index with another, and where they are equal the subject. An index that
+/// none has comes first.
 #[tactic(auto, using(crate::proofs::KeyOrders::steps), unfolding(crate::specs::KeyOrder::signer_order))]
 #[inline(always)]
 fn order_to(anchors: &[Certificate], index: usize, subject: &[u8], spki: &[u8]) -> Ordering
@@ -156,7 +157,7 @@ fn copy_keys(
     Ok(KeyOrder { buffer, places })
 }
 
-/// Returns the SPKI of the trust anchor at an index, an empty one if there is none.
+/// Returns the SPKI of the trust anchor at an index, or an empty one if there is no such anchor.
 fn spki_at(anchors: &[Certificate], index: usize) -> &[u8]
     ensures { result.now ≡ spki_in (slice_get anchors.now index) }
 {
@@ -184,7 +185,7 @@ fn compare_copy(
     }
 }
 
-/// Returns the subject of the trust anchor at an index, an empty one if there is none.
+/// Returns the subject of the trust anchor at an index, or an empty one if there is no such anchor.
 fn subject_at(anchors: &[Certificate], index: usize) -> &[u8]
     ensures { result.now ≡ subject_in (slice_get anchors.now index) }
 {

@@ -1,10 +1,10 @@
-//! Pools of trust anchors and intermediates: which of them issued a certificate (RFC 5280 sections 4.2 and 6.1, in the profile of
-//! Sigstore). The crate re-exports what the three below it have for the same callers: certificates, their SCTs, and
-//! policies.
+//! Pools of trust anchors and intermediates: which of them issued a certificate (RFC 5280 sections 4.2 and 6.1, in the
+//! profile of Sigstore). The crate re-exports what the three below it have for the same callers: certificates, their
+//! SCTs, and policies.
 //!
 //! The layer above uses one fact. A pool returns the issuer in the first certification path that leads from the
-//! certificate over its intermediates to a trust anchor, or that the certificate has not the profile of what may be
-//! issued, or that there is no path. `uncounted` has the same calls for a caller that counts no questions.
+//! certificate over its intermediates to a trust anchor, or that the certificate does not have the profile of what may
+//! be issued, or that there is no path. `uncounted` has the same calls for a caller that counts no questions.
 #![tactic(auto)]
 
 mod asked;

@@ -1,4 +1,4 @@
-//! Who signed each intermediate.
+//! The signers of each intermediate.
 
 ghost use Rattle.std.specs.Prelude.{◌≡◌, ◌+◌, ◌*◌, ◌≤◌, length, slice_get, IfOk, IsTrue};
 ghost use Rattle.sig_certificate.specs.Profile.{constraints};
@@ -99,7 +99,7 @@ fn candidate_at<'a>(listed: &[Option<&'a Certificate>], place: usize) -> Option<
     }
 }
 
-/// Whether a checker is asked the same about the two, under any key.
+/// Whether a checker gets the same question about the two, under any key.
 fn asks_alike(one: &Certificate, other: &Certificate) -> bool
     ensures { IsTrue result → AsksAlike one.now other.now }
 {

@@ -1,4 +1,5 @@
-//! `CertificatePool`: the trust anchors that may have issued a certificate, and the intermediates that may lead to them.
+//! `CertificatePool`: the trust anchors that may have issued a certificate, and the intermediates that may lead to
+//! them.
 
 ghost use Rattle.std.specs.Prelude.{◌≡◌, ℕ, ◌+◌, ◌<◌, ◌≤◌, length, Ok, Err, option_map, IfOk, IfErr};
 ghost use Rattle.sig_base.specs.Answers.{Answers, ComesWhere};
@@ -26,9 +27,9 @@ use std::sync::ledger::Ledger;
 const MOST_INTERMEDIATES: usize = 1024;
 
 /// Trust anchors, in order: certificates that are trusted by themselves, and have no name constraints; and the
-/// intermediates that may lead to them, in order, which are not trusted. Contracts see both lists; an intermediate whose
-/// bytes are not a certificate has its index, and is absent. Beside them are the trust anchors that a checker is asked
-/// about: their indices in order, and in that of their keys and subjects with copies of the keys.
+/// intermediates that may lead to them, in order, which are not trusted. Contracts see both lists; an intermediate
+/// whose bytes are not a certificate has its index, and is absent. Beside them are the trust anchors that a checker is
+/// asked about: their indices in order, and in that of their keys and subjects with copies of the keys.
 #[derive(Drop)]
 pub struct CertificatePool {
     pub(crate) anchors: OwnedList<Certificate>,
@@ -118,10 +119,10 @@ impl CertificatePool {
     /// that did and that at most five others connect to a trust anchor, each signed by the next. `further` are
     /// intermediates that come with the leaf; their indices follow those of the pool.
     ///
-    /// A step is a signature that the checker is asked about. It is asked only where the issuer of one certificate is the
-    /// subject of the other, and once for each two. Errors:
+    /// A step is a signature that the checker is asked about. It is asked only where the issuer of one certificate is
+    /// the subject of the other, and once for each two. Errors:
     ///
-    /// - `Malformed` if and only if the leaf has not the profile: version 3, two equal algorithms, no duplicate
+    /// - `Malformed` if and only if the leaf does not have the profile: version 3, two equal algorithms, no duplicate
     ///   extension, no critical extensions but key usage, alternative names, basic constraints and extended key usage,
     ///   no name constraints, and basic constraints that are absent, or well formed and not cA;
     /// - `VerificationFailed` if and only if it has the profile, and no path leads from it to a trust anchor;
@@ -136,12 +137,12 @@ impl CertificatePool {
         steps: &mut Steps<L>,
     ) -> Result<Issuer, PoolError>
         requires few { length further.now ≤ 16 }
-        // An issuer is returned if and only if the leaf has the profile, this is its issuer in a path to a trust anchor,
-        // and none before it is, unless memory ran out.
+        // An issuer is returned if and only if the leaf has the profile, this is its issuer in a path to a trust
+        // anchor, and none before it is, unless memory ran out.
         ensures issued { (issuer : Issuer) → ComesWhere PoolError.OutOfMemory result (Ok issuer)
             (HasProfile leaf.now × IsFirstInPath (C.cert_accepts checker.now) (with_further self.now further.now)
             leaf.now verification_time issuer) }
-        // `Malformed` is returned if and only if it has not the profile, unless memory ran out.
+        // `Malformed` is returned if and only if it does not have the profile, unless memory ran out.
         ensures malformed { ComesWhere PoolError.OutOfMemory result (Err PoolError.Malformed)
             (HasProfile leaf.now → ⊥) }
         // `VerificationFailed` is returned if and only if it has the profile, and no path leads to a trust anchor,
@@ -173,12 +174,12 @@ impl CertificatePool {
         checker: &C,
         steps: &mut Steps<L>,
     ) -> Result<Issuer, PoolError>
-        // An issuer is returned if and only if the leaf has the profile, this is its issuer in a path to a trust anchor,
-        // and none before it is, unless memory ran out.
+        // An issuer is returned if and only if the leaf has the profile, this is its issuer in a path to a trust
+        // anchor, and none before it is, unless memory ran out.
         ensures issued { (issuer : Issuer) → ComesWhere PoolError.OutOfMemory result (Ok issuer)
             (HasProfile leaf.now × IsFirstInPath (C.cert_accepts checker.now) self.now leaf.now verification_time
             issuer) }
-        // `Malformed` is returned if and only if it has not the profile, unless memory ran out.
+        // `Malformed` is returned if and only if it does not have the profile, unless memory ran out.
         ensures malformed { ComesWhere PoolError.OutOfMemory result (Err PoolError.Malformed)
             (HasProfile leaf.now → ⊥) }
         // `VerificationFailed` is returned if and only if it has the profile, and no path leads to a trust anchor,
@@ -228,8 +229,8 @@ impl CertificatePool {
         checker: &C,
         steps: &mut Steps<L>,
     ) -> Result<Issuer, PoolError>
-        // An issuer is returned if and only if the bytes are a certificate with the profile, this is its issuer in a path
-        // to a trust anchor, and none before it is, unless memory ran out.
+        // An issuer is returned if and only if the bytes are a certificate with the profile, this is its issuer in a
+        // path to a trust anchor, and none before it is, unless memory ran out.
         ensures issued { (issuer : Issuer) → ComesWhere PoolError.OutOfMemory result (Ok issuer)
             (IsIssuedText (C.cert_accepts checker.now) self.now der.now verification_time issuer) }
         // `Malformed` is returned if and only if the bytes are not a certificate with the profile, unless memory ran
@@ -241,12 +242,12 @@ impl CertificatePool {
             (IsUnissuedText (C.cert_accepts checker.now) self.now der.now verification_time) }
         // The number of questions is bounded.
         ensures steps { steps.new ≤ steps.old + most_questions self.now }
-        // Of a certificate, the checker's word matters only on the signatures of paths that would hold if each were
+        // The checker's result for a certificate depends only on the signatures of paths that would hold if each were
         // genuine.
         ensures asked { (other : Accepts) (c : Cert) → IsCertificate der.now c
             → AgreeOnPaths (C.cert_accepts checker.now) other self.now c verification_time
             → Answers PoolError.OutOfMemory (λ issuer. issuer) result (path_issuer other self.now c verification_time) }
-        // Of a certificate, the result is that of its record.
+        // The result for a certificate is that of its record.
         ensures certificate { (c : Cert) → IsCertificate der.now c
             → Answers PoolError.OutOfMemory (λ issuer. issuer) result
             (path_issuer (C.cert_accepts checker.now) self.now c verification_time) }

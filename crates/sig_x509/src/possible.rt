@@ -44,9 +44,9 @@ pub(crate) struct Signer<'a> {
 }
 
 /// Returns whose signatures may be asked about in a search for a path from the leaf over these intermediates to a trust
-/// anchor, at the time in seconds since 1970: the leaf's, and those of the intermediates in order; and of each under whose
-/// keys: those of the trust anchors, and then those of the intermediates, that may have signed it in a path which would
-/// hold if every signature were genuine. Fails only if out of memory.
+/// anchor, at the time in seconds since 1970: the leaf's, and those of the intermediates in order; and of each under
+/// whose keys: those of the trust anchors, and then those of the intermediates, that may have signed it in a path which
+/// would hold if every signature were genuine. Fails only if out of memory.
 pub fn possible_paths<'a>(
     alloc: Global,
     leaf: &'a Certificate,
@@ -144,8 +144,8 @@ fn signed_under<'a>(
     })
 }
 
-/// The trust anchors that may have signed the certificate: those of its issuer's name, if a signer can be anywhere. Fails
-/// only if out of memory.
+/// The trust anchors that may have signed the certificate: those of its issuer's name, if a signer can be anywhere.
+/// Fails only if out of memory.
 fn anchors_of<'a>(
     alloc: Global,
     anchors: &'a TrustAnchors,
@@ -183,7 +183,8 @@ fn meets(next: &[bool], trusted: bool, up: &[bool]) -> bool
     false
 }
 
-/// Whether the signer of a certificate, and a certificate, can both be at the place with so many others before it.
+/// Whether the signer of a certificate, and a certificate, can both be at the place with this number of others before
+/// it.
 fn meets_at(next: &[bool], trusted: bool, up: &[bool], others: usize) -> bool
     requires { others < 7 }
     ensures { result ≡ meets_at next.now trusted up.now others }
@@ -191,7 +192,7 @@ fn meets_at(next: &[bool], trusted: bool, up: &[bool], others: usize) -> bool
     bit(next, others) && (trusted || bit(up, 6 - others))
 }
 
-/// Each of these certificates with those who may have signed it. Fails only if out of memory.
+/// Returns each of these certificates with those that may have signed it. Fails only if out of memory.
 fn each_under<'a>(
     alloc: Global,
     anchors: &'a TrustAnchors,

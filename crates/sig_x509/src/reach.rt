@@ -92,7 +92,7 @@ pub(crate) fn is_named(certificate: &Certificate, signer: &Certificate) -> bool
     certificate.issuer() == signer.subject()
 }
 
-/// Of which intermediates the certificate has the name of the issuer. Fails only if out of memory.
+/// Returns the intermediates whose name is that of the certificate's issuer. Fails only if out of memory.
 fn signed_by(
     alloc: Global,
     certificate: &Certificate,
@@ -162,14 +162,14 @@ fn up_row(
     Ok(row)
 }
 
-/// Whether it leads to a trust anchor from the place with so many others before it; the row is that of the next place.
+/// Whether it leads to a trust anchor from the place with `others` before it; the row is that of the next place.
 fn node_leads(node: &Node, others: u32, next: &[bool]) -> bool
     ensures { result ≡ node_leads others next.now node.now }
 {
     node_stands(node, others) && (node.rooted || any_both(node.signers.as_slice(), next))
 }
 
-/// Whether the intermediate can be in a path, at the place with so many others before it.
+/// Whether the intermediate can be in a path, at the place with `others` before it.
 fn node_stands(node: &Node, others: u32) -> bool
     ensures { result ≡ node_stands others node.now }
 {
@@ -235,7 +235,8 @@ fn down_row(
     Ok(row)
 }
 
-/// Whether it is reached from the leaf at the place with so many others before it; the row is that of the place before.
+/// Whether it is reached from the leaf at the place with `others` before it; the row is that of the place
+/// before.
 fn node_reached(node: &Node, others: u32, previous: &[bool]) -> bool
     ensures { result ≡ node_reached others previous.now node.now }
 {

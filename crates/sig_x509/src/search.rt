@@ -114,7 +114,7 @@ impl CertificatePool {
     }
 }
 
-/// Returns the index of the first intermediate of which the row holds and that signed the leaf.
+/// Returns the index of the first intermediate that signed the leaf and of which the row holds.
 fn first_leading<C: SignatureChecker, L: Ledger>(
     leaf: &Certificate,
     intermediates: &[Option<&Certificate>],

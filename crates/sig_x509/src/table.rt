@@ -38,7 +38,8 @@ fn row_past(alloc: Global, links: &[Link]) -> Result<Vec<bool>, OutOfMemory>
     Ok(past)
 }
 
-/// Returns the row of the place with so many others before it, by that of the next place. Fails only if out of memory.
+/// Returns the row of the place with this number of others before it, by that of the next place. Fails only if out of
+/// memory.
 fn row_before(
     alloc: Global,
     others: u32,
@@ -54,15 +55,15 @@ fn row_before(
     Ok(before)
 }
 
-/// Whether the intermediate leads to a trust anchor from the place with so many others before it; the row is that of the
-/// next place.
+/// Whether the intermediate leads to a trust anchor from the place with this number of others before it; the row is
+/// that of the next place.
 fn link_leads(others: u32, row: &[bool], link: &Link) -> bool
     ensures { result ≡ link_leads others row.now link.now }
 {
     allows(link.path_len, others) && (link.rooted || does_any_lead(row, link.signers.as_slice()))
 }
 
-/// Whether so many others may come between an intermediate with this path length and the leaf.
+/// Whether this number of others may come between an intermediate with this path length and the leaf.
 pub(crate) fn allows(path_len: Option<u32>, others: u32) -> bool
     ensures { result ≡ allows path_len others }
 {

@@ -1,4 +1,4 @@
--- The request over the log of so many entries.
+-- The request over the log of this number of entries.
 use Rattle.sig_program.proofs.DemoLinks.{document_made, few_entries, holds_made, links_made, members_made}
 use Rattle.sig_program.proofs.demo.demo_request.Goals as goal
 

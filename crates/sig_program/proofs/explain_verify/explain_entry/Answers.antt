@@ -1,4 +1,4 @@
--- The reply of a request of which every link holds, and what was verified.
+-- The reply to a request for which every link holds, and what was verified.
 use Rattle.std.proofs.Common.{inr, Ok}
 use Rattle.sig_program.proofs.Explanations.{explained-replied}
 use Rattle.sig_program.proofs.VerifyReplies.{chain-included, verified-reply}

@@ -1,4 +1,4 @@
--- The reply of a request of which this link fails first, and why.
+-- The reply to a request for which this link fails first, and why.
 use Rattle.std.proofs.Common.{inr, Err, subst, sym}
 use Rattle.sig_program.proofs.Explanations.{explained-replied}
 use Rattle.sig_program.proofs.VerifyReplies.{refused-verify}

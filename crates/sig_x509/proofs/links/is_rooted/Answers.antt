@@ -1,4 +1,4 @@
--- What is known of the same certificate is known of this one, and else the first trust anchor that signed it is looked for.
+-- What is known of an equal certificate holds of this one; else the first trust anchor that signed it is sought.
 use Rattle.std.proofs.Common.{ℕ, Option, refl, sym, ap, ◌∙◌}
 use Rattle.std.specs.Prelude.{is_some}
 use Rattle.std.proofs.lemmas.Option.{slice_get_read}
