@@ -115,7 +115,7 @@ envelope_of d = do
   signatures ← optional_list dsse_signature_of (codes "signatures") d
   Some (record { payload = payload; payload_type = payload_type; signatures = signatures })
 
--- the one of both that is there
+-- the one of the two that is there
 unfoldable pub one_content : Option MessageSignature → Option DsseEnvelope → Option (Option Content)
 one_content signature envelope =
     oneof (option_map content.MessageSignature signature ∷ option_map content.DsseEnvelope envelope ∷ [])
@@ -135,6 +135,6 @@ bundle_of d = do
   content ← content_of d
   Some (record { media_type = media_type; verification_material = verification_material; content = content })
 
--- the bundle of a text, or why it is none
+-- the bundle that a text is, or why it is not one
 abbrev pub bundle_in : List ℕ → Result Bundle JsonError
 bundle_in = record_in bundle_of

@@ -1,5 +1,5 @@
 -- The tree of a bundle, object by object, by its rows: every text, integer and bytes value is written, also where it
--- is empty; only what is none is left out.
+-- is empty; only what is absent is left out.
 use Rattle.std.specs.Prelude.{ℕ, List, [], ◌∷◌, codes, Option, Some, None, option_map}
 use Rattle.sig_json.specs.Data.{Data, string}
 use Rattle.sig_json.specs.Writing.{TreeMember, object_of, integer_tree, bytes_tree, list_tree}

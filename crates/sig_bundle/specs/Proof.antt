@@ -31,7 +31,7 @@ HasHashes fields = AllByRecursion IsHash fields.hashes
 abbrev pub HasSize : ProofFields → Type 0
 HasSize fields = (size : ℕ) × (fields.tree_size ≡ pos size)
 
--- there is a text of a checkpoint, of which this holds
+-- there is a text of a checkpoint, and this holds of it
 abbrev pub OfText : ProofFields → (List ℕ → Type 0) → Type 0
 OfText fields P = (text : List ℕ) × (fields.checkpoint ≡ Some text) × P text
 

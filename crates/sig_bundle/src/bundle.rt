@@ -4,18 +4,18 @@ use crate::material::VerificationMaterial;
 use sig_base::{Bytes, Text};
 use sig_dsse::DsseEnvelope;
 
-/// What a bundle's text says. Nothing is checked beyond the kinds of its members.
+/// What a bundle's text says. Only the kinds of its members are checked.
 #[derive(Drop, PartialEq, Eq)]
 pub struct Bundle {
     /// The media type, which names the profile that the bundle has to meet.
     pub media_type: Text,
     /// Certificates and log entries.
     pub verification_material: Option<VerificationMaterial>,
-    /// What the signature is said to be over, with the signature.
+    /// The signature, and what it claims to be over.
     pub content: Option<Content>,
 }
 
-/// What a signature is said to be over, with the signature.
+/// A signature, and what it claims to be over.
 #[derive(Drop, PartialEq, Eq)]
 pub enum Content {
     /// A signature over an artifact.

@@ -5,9 +5,9 @@ use crate::material::{KindVersion, ProofFields, TransparencyLogEntry};
 use sig_base::{Bytes, OutOfMemory, Text};
 use std::alloc::Global;
 
-/// A value that can be had once more, in memory of its own.
+/// A value that can be copied into memory of its own.
 trait Copies: Drop {
-    /// The same value in memory of its own. Fails only if out of memory.
+    /// Returns the same value in memory of its own. Fails only if out of memory.
     fn copied(&self, alloc: Global) -> Result<Self, OutOfMemory>
         ensures { IfOk result (λ copy. copy ≡ self.now) };
 }
@@ -56,11 +56,11 @@ fn copied_option<T: Copies>(alloc: Global, value: &Option<T>) -> Result<Option<T
 }
 
 impl TransparencyLogEntry {
-    /// The same entry in memory of its own. Fails only if out of memory.
+    /// Returns the same entry in memory of its own. Fails only if out of memory.
     pub fn copy(&self, alloc: Global) -> Result<TransparencyLogEntry, OutOfMemory>
         ensures { IfOk result (λ copied. copied ≡ self.now) }
     {
-        // What has most parts comes last: what is there already is dropped where the next copy fails.
+        // What has most parts is copied last: a failing copy drops those before it.
         let canonicalized_body = self.canonicalized_body.copy(alloc)?;
         let log_id = copied_option(alloc, &self.log_id)?;
         let inclusion_promise = copied_option(alloc, &self.inclusion_promise)?;

@@ -1,5 +1,5 @@
 //! `LogEntries`: the log entries of a bundle. A bundle of 2^24 bytes can have millions of entries without a member, or
-//! with an empty log id alone, each of which takes the room of two pointers here.
+//! with only an empty log id, each of which takes the room of two pointers here.
 ghost use Rattle.std.specs.Prelude.{◌≡◌, ◌++◌, [], ◌∷◌, IfOk, IfSome, OnOk, OnErr, IsTrue, length, option_map};
 ghost use Rattle.std.specs.Prelude.{slice_get};
 ghost use Rattle.std.specs.Option.{option_copied};
@@ -10,7 +10,7 @@ use sig_base::{Bytes, OutOfMemory, OwnedList};
 use std::alloc::Global;
 use std::marker::Model;
 
-/// What is held of an entry.
+/// What is held for an entry.
 #[derive(Drop)]
 enum Held {
     /// Nothing: every member is absent.
@@ -21,8 +21,8 @@ enum Held {
     Whole(BoxedEntry),
 }
 
-/// An entry that takes memory of its own only where it has a member that is more than an empty log id. Contracts see the
-/// entry.
+/// An entry that takes memory of its own only where it has a member that is more than an empty log id. Contracts see
+/// the entry.
 #[derive(Drop)]
 pub(crate) struct SparseEntry {
     alloc: Global,
@@ -59,7 +59,7 @@ impl SparseEntry {
         })
     }
 
-    /// The entry, if those of which nothing is held are at hand.
+    /// Returns the entry; `small` has those for which nothing is held.
     pub(crate) fn get<'a>(&'a self, small: &'a SmallEntries) -> &'a TransparencyLogEntry
         ensures { result.now ≡ self.now }
     {
@@ -71,7 +71,7 @@ impl SparseEntry {
     }
 }
 
-/// What is held of an entry of which that is nothing; `None` for every other entry.
+/// Returns what is held for an entry that takes no memory; `None` for every other entry.
 fn held_small(alloc: Global, entry: &TransparencyLogEntry) -> Option<Held>
     ensures { IfSome result (λ held. whole held ≡ entry.now) }
 {
@@ -81,7 +81,7 @@ fn held_small(alloc: Global, entry: &TransparencyLogEntry) -> Option<Held>
     held
 }
 
-/// The entries of which nothing is held.
+/// The entries for which no memory is held.
 #[derive(Drop)]
 pub(crate) struct SmallEntries {
     absent: TransparencyLogEntry,
@@ -108,7 +108,7 @@ impl SmallEntries {
         }
     }
 
-    /// What is held of an entry that is one of them.
+    /// Returns what is held for an entry that is one of them.
     fn held_of(&self, entry: &TransparencyLogEntry) -> Option<Held>
         ensures { IfSome result (λ held. whole held ≡ entry.now) }
     {
@@ -122,7 +122,7 @@ impl SmallEntries {
     }
 }
 
-/// The entry of this log id of which every other member is absent. It takes no memory.
+/// Returns the entry of this log id whose every other member is absent. It takes no memory.
 fn with_id(alloc: Global, log_id: Option<Bytes>) -> TransparencyLogEntry
     ensures { result ≡ of_id log_id }
 {

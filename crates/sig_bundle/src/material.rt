@@ -7,13 +7,13 @@ use sig_base::{Bytes, Entries, Text};
 /// Certificates or a hint at a key, and the entries of logs.
 #[derive(Drop, PartialEq, Eq)]
 pub struct VerificationMaterial {
-    /// Whose signature it is said to be.
+    /// What the signer is claimed to be.
     pub content: Option<MaterialContent>,
     /// What transparency logs say of the signature.
     pub tlog_entries: LogEntries,
 }
 
-/// Whose signature a bundle is said to have.
+/// What the signer of a bundle is claimed to be.
 #[derive(Drop, PartialEq, Eq)]
 pub enum MaterialContent {
     /// The signing certificate (DER).
@@ -52,7 +52,7 @@ pub struct KindVersion {
     pub version: Text,
 }
 
-/// The members of an inclusion proof as they are: lengths and sizes are not looked at, until `to_proof`.
+/// The members of an inclusion proof as they are: lengths and sizes are not checked before `to_proof`.
 #[derive(Drop, PartialEq, Eq)]
 pub struct ProofFields {
     /// The index of the leaf in the tree, counted from 0.

@@ -19,12 +19,12 @@ use std::alloc::Global;
 /// Returns the text that a log signs to promise that it includes the entry: the canonical text (RFC 8785) of an object
 /// with the members `body`, in base64, `integratedTime`, `logID`, in lower-case hexadecimal, and `logIndex`.
 ///
-/// Fails with `IntegerTooLarge` if and only if the integrated time or the log index is beyond plus or minus 2^53 - 1.
+/// Fails with `IntegerTooLarge` if and only if the integrated time or the log index is outside plus or minus 2^53 - 1.
 pub fn promise_text(alloc: Global, entry: &TransparencyLogEntry) -> Result<Text, CanonicalError>
     requires { IsSome entry.now.log_id }
     // The text is the one with these four members, letter by letter, and both integers are within the bounds.
     ensures text { IfOk result (λ text. (text ≡ promise_of_entry entry.now) × IsExactEntry entry.now) }
-    // `IntegerTooLarge` comes if and only if one is beyond.
+    // `IntegerTooLarge` comes if and only if one is outside.
     ensures too_large { ComesWhere CanonicalError.OutOfMemory result (Err CanonicalError.IntegerTooLarge)
         (¬ IsExactEntry entry.now) }
     // The same in one equation, by RFC 8785.
@@ -59,7 +59,7 @@ fn promise_object(alloc: Global, entry: &TransparencyLogEntry) -> Result<Documen
     Ok(object.into_document())
 }
 
-/// The id of a log, empty where there is none.
+/// Returns the id of a log, empty if it is absent.
 fn id_bytes(id: &Option<Bytes>) -> &[u8]
     ensures { result.now ≡ unwrap_or id.now [] }
 {

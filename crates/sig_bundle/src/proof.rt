@@ -13,11 +13,11 @@ use std::alloc::Global;
 
 impl ProofFields {
     /// Returns the inclusion proof that the members are, with the checkpoint that their text is (RFC 6962 section
-    /// 2.1.1). Whether the proof proves anything is not asked, nor whether the index is in the tree.
+    /// 2.1.1). It does not check whether the proof holds, or whether the index is in the tree.
     ///
     /// Errors, the first that applies:
-    /// - `RootLength`: the root hash has not 32 bytes;
-    /// - `HashLength` with the index of the first hash that has not 32 bytes;
+    /// - `RootLength`: the root hash does not have 32 bytes;
+    /// - `HashLength` with the index of the first hash that does not have 32 bytes;
     /// - `TreeSize`: the size is negative;
     /// - `CheckpointMissing`: there is no checkpoint;
     /// - `Checkpoint`: its text is not a checkpoint, with the fault of [`SignedCheckpoint::decode`].
@@ -58,7 +58,7 @@ fn hash_of(bytes: &[u8], error: ProofFieldsError) -> Result<[u8; 32], ProofField
     }
 }
 
-/// The hashes of an audit path. Fails with `HashLength` of the first that has not 32 bytes.
+/// The hashes of an audit path. Fails with `HashLength` of the first that does not have 32 bytes.
 #[tactic(auto, using(sig_base::proofs::IndexedElements::each_left))]
 fn hashes_of(alloc: Global, entries: &Entries) -> Result<Hashes, ProofFieldsError>
     ensures { Answers ProofFieldsError.OutOfMemory (λ hashes. hashes) result (path_hashes_from 0 entries.now) }

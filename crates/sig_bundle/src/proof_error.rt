@@ -9,10 +9,10 @@ use thiserror::Error;
 /// in the order of the checks.
 #[derive(Clone, Copy, Debug, PartialEq, Eq, Error)]
 pub enum ProofFieldsError {
-    /// The root hash has not 32 bytes.
+    /// The root hash does not have 32 bytes.
     #[error("RootLength")]
     RootLength,
-    /// The hash at this index, counted from 0, has not 32 bytes.
+    /// The hash at this index, counted from 0, does not have 32 bytes.
     #[error("HashLength")]
     HashLength(usize),
     /// The tree size is negative.

@@ -58,7 +58,7 @@ impl ElementReader for BundleReader {
 ///
 /// Fails with `NotJson` where the text has no reading, then with `Float` where its tree holds a number with a point or
 /// an exponent, `-0`, or an integer outside -2^63 to 2^64 - 1, and then with `Member` where a member is not of its
-/// kind, where two members are there of which only one may be, or where the text is not an object.
+/// kind, if two members of a oneof are there, or if the text is not an object.
 pub fn read_bundle(alloc: Global, text: &[u8]) -> Result<Bundle, JsonError>
     ensures { Answers JsonError.OutOfMemory (λ b. b) result (bundle_in text.now) }
 {

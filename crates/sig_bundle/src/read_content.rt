@@ -108,7 +108,7 @@ pub(crate) fn read_content(
     one_of(signature, envelope)
 }
 
-/// The one of both that is there. Fails with `Member` where both are.
+/// Returns the one that is there. Fails with `Member` if both are there.
 #[tactic(auto, unfolding(crate::specs::BundleRecord::one_content))]
 fn one_of(
     signature: Option<MessageSignature>,

@@ -51,7 +51,8 @@ impl ElementReader for MaterialReader {
     }
 }
 
-/// Whose signature it is. Fails with `Member` where two of the three kinds are there, or a member is not of its kind.
+/// Returns what the signer is. Fails with `Member` where two of the three kinds are there, or a member is not of its
+/// kind.
 #[tactic(auto, unfolding(crate::specs::BundleRecord::material_content_of))]
 fn read_material_content(
     alloc: Global,

@@ -39,7 +39,7 @@ abbrev pub statement_or_refusal : Option Statement → Result Statement BundleEr
 statement_or_refusal None = Err DssePayloadDecode
 statement_or_refusal (Some statement) = Ok statement
 
--- the refusal of a bundle for what is wrong with its subjects
+-- the error of a bundle for what is wrong with its subjects
 abbrev pub subject_refusal : SubjectFault → BundleErrorKind
 subject_refusal (fault.TooManySubjects count) = DsseTooManySubjects count
 subject_refusal (fault.TooManyDigests count) = DsseTooManySubjectDigests count

@@ -11,8 +11,8 @@ use Rattle.sig_checked_bundle.specs.declared.content_check.CheckedContent.{Check
 use Rattle.sig_checked_bundle.specs.declared.content_check.CheckedContent.TheVariants.{MessageSignature, Dsse}
 use Rattle.sig_bundle.specs.declared.material.TransparencyLogEntry.{TransparencyLogEntry}
 
--- The body says this of the content, of an artifact of this SHA-256 digest: of a signature over the artifact it is the
--- whole tree, and of an envelope it has these members.
+-- The body says this of the content, for an artifact of this SHA-256 digest: for a signature over the artifact it is
+-- the whole tree, and of an envelope it has these members.
 abbrev pub IsBodyAbout : CheckedContent → List ℕ → List ℕ → List ℕ → List ℕ → Type 0
 IsBodyAbout MessageSignature digest signature certificate body =
     document_of body ≡ Ok (hashedrekord_tree digest signature (pem_of certificate))

@@ -1,5 +1,5 @@
 -- *Logged envelope*: what the body of a log's entry says of a signed envelope, member by member (Rekor's entry of kind
--- `dsse`, version 0.0.1). Other members are ignored, and all signatures but the first.
+-- `dsse`, version 0.0.1). Other members are ignored, and so are all signatures except the first.
 use Rattle.std.specs.Prelude.{◌≡◌, ◌↔◌, ℕ, List, codes, Some, Ok}
 use Rattle.sig_base.specs.Sha256.{sha256}
 use Rattle.sig_certificate.specs.Pem.{pem_of}
@@ -12,7 +12,7 @@ use Rattle.sig_checked_bundle.specs.Checked.{Checked}
 use Rattle.sig_checked_bundle.specs.LogBody.{IsLogBody}
 use Rattle.sig_checked_bundle.specs.declared.content_check.CheckedContent.TheVariants.{Dsse}
 
--- under the name stands a hash by the algorithm, and it is this one
+-- the member of this name is a hash by the algorithm, and it is this one
 pub record HasDigest (name : List ℕ) (d : Data) (algorithm hash : List ℕ) : Type 0 where
   pub part : Data
   pub held : get name d ≡ Some part

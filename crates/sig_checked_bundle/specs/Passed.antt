@@ -47,7 +47,7 @@ pub record IsMessageOf (content : Option Content) (bytes : List ℕ) (kept : Che
   pub same : message.signature ≡ bytes
   pub over : kept ≡ CheckedMessage
 
--- an envelope has this signature and no other, its payload is a statement of which digests are taken, and all that the
+-- an envelope has only this signature, its payload is a statement whose digests are taken, and all that the
 -- signature has to be over is kept
 pub record IsEnvelopeOf (content : Option Content) (bytes : List ℕ) (kept : CheckedContent) : Type 0 where
   pub envelope : DsseEnvelope
@@ -69,7 +69,8 @@ pub record HasPromise (entry : TransparencyLogEntry) : Type 0 where
   pub promise : List ℕ
   pub promised : entry.inclusion_promise ≡ Some promise
 
--- the log entry has an inclusion proof, and the proof the text of a checkpoint; nothing is said of what either proves
+-- the log entry has an inclusion proof, and the proof the text of a checkpoint; this does not say that either proves
+-- anything
 pub record HasProof (entry : TransparencyLogEntry) : Type 0 where
   pub proof : ProofFields
   pub included : entry.inclusion_proof ≡ Some proof

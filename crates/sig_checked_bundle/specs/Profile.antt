@@ -45,7 +45,7 @@ abbrev pub unless_lacking : Option BundleProfileErrorKind → Result (Unit {0}) 
 unless_lacking None = Ok tt
 unless_lacking (Some lacking) = Err (BundleProfile lacking)
 
--- the entry has what the version demands; a media type that names none is unknown
+-- the entry has what the version demands; a media type that does not name a version is unknown
 abbrev pub meets_version : List ℕ → Option Version → TransparencyLogEntry → Result (Unit {0}) BundleErrorKind
 meets_version media_type None entry = Err (BundleProfile (Unknown media_type))
 meets_version media_type (Some version) entry = unless_lacking (lacks version entry)

@@ -61,7 +61,7 @@ pub record HasLeaf (b : Bundle) : Type 0 where
   pub before : HasCertificates b
   pub may_sign : leaf_refusal before.certificate ≡ None
 
--- no further one is a root
+-- no further certificate is a root
 pub record HasNoRoot (b : Bundle) : Type 0 where
   pub before : HasLeaf b
   pub rootless : AllByRecursion IsNoRoot before.before.further
@@ -84,7 +84,7 @@ pub record HasStatement (b : Bundle) : Type 0 where
   pub statement : Statement
   pub stated : statement_of before.before.envelope.payload ≡ Some statement
 
--- the content is a signature over an artifact, or an envelope of which all rules hold
+-- the content is a signature over an artifact, or an envelope that keeps all rules
 pub record HasContent (b : Bundle) : Type 0 where
   pub before : HasNoRoot b
   pub signature : List ℕ

@@ -1,5 +1,5 @@
--- The signing certificate of a bundle, the first of its certificates, and the further ones (sigstore_bundle.proto, the comments on
--- verification_material).
+-- The signing certificate of a bundle, the first of its certificates, and the further ones (sigstore_bundle.proto, the
+-- comments on verification_material).
 use Rattle.std.specs.Prelude.{◌≡◌, ◌≢◌, ℕ, zero, suc, List, [], ◌∷◌, Bool, Option, Some, None, is_none, Result}
 use Rattle.std.specs.Prelude.{true, false, length, nat_lt, Ok, Err, if◌then◌else◌}
 use Rattle.std.specs.List.{list_any}
@@ -39,7 +39,7 @@ IsFirstMalformed [] index = ⊥
 IsFirstMalformed (der ∷ ders) zero = IsNoCertificate der
 IsFirstMalformed (der ∷ ders) (suc index) = (c : Cert) × IsCertificate der c × IsFirstMalformed ders index
 
--- the certificates, or the index of the first encoding that is none
+-- the certificates, or the index of the first encoding that is not one
 abbrev pub AreRead : List (List ℕ) → Result (List Cert) BundleErrorKind → Type 0
 AreRead ders (Ok certificates) = AreCertificates ders certificates
 AreRead ders (Err e) = (index : ℕ) × (e ≡ CertificateMalformed index) × IsFirstMalformed ders index

@@ -27,7 +27,7 @@ version_of text =
     if bytes_eq text (media_type Bundle0_3) then Some Bundle0_3 else
     if bytes_eq text older_media_type then Some Bundle0_3 else None
 
--- the result of a reader of media types: the version that the text names; an error if and only if it names none
+-- the result of a reader of media types: the version that the text names; an error if and only if it does not name one
 pub record IsVersionRead (text : List ℕ) (read : Result Version (Unit {0})) : Type 0 where
   pub named : IfOk read (IsMediaType text)
   pub refused : OnErr read ((version : Version) → ¬ IsMediaType text version)

@@ -60,7 +60,7 @@ pub enum BundleErrorKind {
     /// There is this number of log entries, and not one.
     #[error("TlogEntry")]
     TlogEntry(usize),
-    /// The log entry has not what the media type demands.
+    /// The log entry does not have what the media type requires.
     #[error("BundleProfile")]
     BundleProfile(BundleProfileErrorKind),
     /// Out of memory.
@@ -68,7 +68,7 @@ pub enum BundleErrorKind {
     OutOfMemory,
 }
 
-/// Why a log entry has not what a bundle's media type demands.
+/// Why a log entry does not have what a bundle's media type requires.
 #[derive(Debug, Drop, PartialEq, Eq, Error)]
 pub enum BundleProfileErrorKind {
     /// What version 0.1 demands is not there.

@@ -20,7 +20,7 @@ use sig_certificate::Certificate;
 use std::alloc::Global;
 use std::marker::Model;
 
-/// A bundle of which all holds that a bundle alone can show. No signature is checked, and no digest compared.
+/// A bundle that passed all checks that need only the bundle. No signature is checked, and no digest compared.
 /// Contracts see the record of *Checked bundle*.
 #[derive(Drop)]
 pub struct CheckedBundle {
@@ -46,7 +46,7 @@ impl Model for CheckedBundle {
 }
 
 impl CheckedBundle {
-    /// Checks what a bundle alone can show, and keeps what the checks after it need. Fails with the first of these
+    /// Checks what needs only the bundle, and keeps what the checks after it need. Fails with the first of these
     /// that has its cause:
     ///
     /// 1. `VerificationMaterialMissing`: there is no verification material.
@@ -58,7 +58,7 @@ impl CheckedBundle {
     /// 6. `NoLeaf`: the first certificate may not sign, with the error of [`sig_certificate::is_leaf`].
     /// 7. `RootInChain`: a further certificate of the chain is a root, as [`sig_certificate::is_root_ca`] says.
     /// 8. `SignatureMissing`: there is no content.
-    /// 9. `DsseInvalidSignatureCount`: an envelope has not one signature.
+    /// 9. `DsseInvalidSignatureCount`: an envelope does not have exactly one signature.
     /// 10. `DssePayloadDecode`: its payload is not a statement.
     /// 11. `DsseTooManySubjects` above 1024, `DsseTooManySubjectDigests` above 32, `DsseSubjectDigestMalformed`, and
     ///     `DsseNoRecognizedSubjectDigest`, as [`sig_dsse::recognized_digests`].
@@ -112,7 +112,7 @@ impl CheckedBundle {
     }
 
     /// Returns the log entry if its body is about what the bundle holds, and nothing has to be fetched to check it:
-    /// with `offline`, or with an inclusion proof at hand. Returns `None` if and only if one of both does not hold.
+    /// with `offline`, or with an inclusion proof. Returns `None` if and only if one of both does not hold.
     /// Fails only if out of memory.
     ///
     /// The body of an entry about a signature over an artifact is the document of kind `hashedrekord`, version 0.0.1

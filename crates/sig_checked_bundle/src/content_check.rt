@@ -69,8 +69,8 @@ fn checked_message(
     })
 }
 
-/// The content of an envelope. Fails with `DsseInvalidSignatureCount` if it has not one signature, then with the error
-/// of its payload.
+/// The content of an envelope. Fails with `DsseInvalidSignatureCount` if it does not have exactly one signature, then
+/// with the error of its payload.
 fn checked_envelope(
     alloc: Global,
     envelope: &DsseEnvelope,

@@ -91,7 +91,7 @@ fn spec(alloc: Global, digest: &[u8], signature: &[u8], pem: &[u8]) -> Result<Do
     Ok(object.into_document())
 }
 
-/// What is signed. Fails only if out of memory.
+/// Returns what is signed. Fails only if out of memory.
 #[tactic(auto, unfolding(crate::specs::Hashedrekord::data_tree))]
 fn data_tree(alloc: Global, digest: &[u8]) -> Result<Document, OutOfMemory>
     ensures { IfOk result (λ document. document_tree document ≡ data_tree digest.now) }

@@ -12,8 +12,8 @@ use sig_base::Entries;
 use sig_base::laws::{are_bytes, are_owned_bytes};
 use sig_bundle::{Bundle, MaterialContent};
 
-/// A bundle passes its own checks if and only if it has all that the format demands of a signature, over an artifact or
-/// a statement, with certificates and one log entry, under its version. It has no code.
+/// A bundle passes its own checks if and only if it has all that the format requires of a signature, over an artifact
+/// or a statement, with certificates and one log entry, under its version. It has no code.
 pub fn passed_bundles()
     ensures { (bundle : Bundle) (c : Checked) → IsChecked bundle (Ok c) ↔ IsPassed bundle c }
 {}
@@ -24,11 +24,11 @@ pub fn causes_of_refusals()
     ensures { RefusalsHaveTheirCause }
 {}
 
-/// The body of the log entry of a checked bundle is accepted if and only if it has these members. Of a signature over an
-/// artifact: the artifact's SHA-256 in hexadecimal, the base64 of the bundle's signature, and the base64 of the PEM of
-/// the bundle's certificate, each under its name, and no other member. Of an envelope: the SHA-256 of the envelope's
-/// text and of the payload, each under its name, and as the first signature the envelope's, beside the PEM of the
-/// certificate that verifies it. It has no code.
+/// The body of the log entry of a checked bundle is accepted if and only if it has these members. Of a signature over
+/// an artifact: the artifact's SHA-256 in hexadecimal, the base64 of the bundle's signature, and the base64 of the PEM
+/// of the bundle's certificate, each under its name, and no other member. For an envelope: the SHA-256 of the
+/// envelope's text and of the payload, each under its name, and as the first signature the envelope's, beside the PEM
+/// of the certificate that verifies it. It has no code.
 pub fn log_bodies()
     ensures artifacts { ArtifactsAreLogged }
     ensures envelopes { EnvelopesAreLogged }

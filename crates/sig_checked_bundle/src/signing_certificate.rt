@@ -33,7 +33,7 @@ pub(crate) struct SigningChain {
 /// further ones.
 ///
 /// Fails with `VerificationMaterialContentUnsupported` if and only if the material holds no certificates: no content,
-/// or a hint at a key; then with `TooManyCertificates` and their number if there are more than 17, of which none is
+/// or a hint at a key; then with `TooManyCertificates` and their number if there are more than 17, and none of them is
 /// read; with `CertificateMalformed` and the index of the first that cannot be read, `CertificatesMissing` if a chain
 /// is empty, `NoLeaf` if the first is not a leaf, and `RootInChain` if a further one is a root.
 pub(crate) fn check_certificates(

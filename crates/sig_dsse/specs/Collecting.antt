@@ -5,7 +5,7 @@ use Rattle.sig_dsse.specs.declared.artifact_digest.ArtifactDigest.{ArtifactDiges
 use Rattle.sig_dsse.specs.declared.recognized.SubjectFault.{SubjectFault}
 use Rattle.sig_dsse.specs.declared.recognized.SubjectFault.TheVariants.{OutOfMemory}
 
--- the digests that are meant are put after, or the fault that is meant is told, unless memory ran out
+-- the digests that are meant are appended, or the fault that is meant is returned, unless memory ran out
 abbrev pub AddsDigests : {A : Type 0} → List ArtifactDigest → List ArtifactDigest → Result A SubjectFault
     → Result (List ArtifactDigest) SubjectFault → Type 0
 AddsDigests before after (Ok x) meant = (more : List ArtifactDigest) × (meant ≡ Ok more) × (after ≡ before ++ more)

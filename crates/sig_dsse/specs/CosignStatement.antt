@@ -1,4 +1,4 @@
--- What `cosign` asks of a statement: its types, and a first subject with a `sha256` digest.
+-- What `cosign` requires of a statement: its types, and a first subject with a `sha256` digest.
 use Rattle.std.specs.Prelude.{ℕ, List, [], ◌∷◌, bytes_eq, if◌then◌else◌, codes, is_some, Option, Some, None, Result}
 use Rattle.std.specs.Prelude.{Ok, Err}
 use Rattle.std.specs.Option.{ok_or}

@@ -1,4 +1,4 @@
--- For private clauses: what is read of a statement where its digests alone are kept.
+-- For private clauses: what is read of a statement if only its digests are kept.
 use Rattle.std.specs.Prelude.{ℕ, List, map, Option, option_map, Result}
 use Rattle.std.specs.Option.{ok_or}
 use Rattle.sig_json.specs.Data.{Data}
@@ -22,7 +22,7 @@ digest_map_in d = option_map (λ (subject : Subject). subject.digest) (subject_o
 abbrev pub digest_maps_in : Data → Option (List DigestTexts)
 digest_maps_in d = option_map digest_maps (statement_in d)
 
--- of the statement that a payload is
+-- the digests of the statement that a payload is
 abbrev pub digest_maps_of : List ℕ → Result (List DigestTexts) PayloadFault
 digest_maps_of payload = ok_or (option_map digest_maps (statement_of payload)) NoStatement
 

@@ -10,7 +10,7 @@ use Rattle.sig_dsse.specs.declared.envelope.DsseSignature.{DsseSignature}
 abbrev pub envelope_member : List ℕ → List ℕ → List ℕ
 envelope_member name value = canon_string name ++ (codes ":" ++ value)
 
--- the member of a text, none where the text is empty; quoted and escaped as in canonical JSON (RFC 8785 section
+-- the member of a text, nothing if the text is empty; quoted and escaped as in canonical JSON (RFC 8785 section
 -- 3.2.2.2)
 abbrev pub text_member : List ℕ → List ℕ → List (List ℕ)
 text_member name [] = []
@@ -20,7 +20,7 @@ text_member name (c ∷ cs) = envelope_member name (canon_string (c ∷ cs)) ∷
 abbrev pub bytes_member : List ℕ → List ℕ → List (List ℕ)
 bytes_member name bytes = text_member name (base64_text bytes)
 
--- the member of a list of texts of JSON, none where the list is empty
+-- the member of a list of texts of JSON, nothing if the list is empty
 abbrev pub list_member : List ℕ → List (List ℕ) → List (List ℕ)
 list_member name [] = []
 list_member name (text ∷ texts) = envelope_member name (in_brackets (text ∷ texts)) ∷ []

@@ -51,7 +51,7 @@ DigitsAreOfTheHash =
     (message : List ℕ) → (digit_count Sha256 ≡ 2 * length (sha256 message)) ×
     (digit_count Sha512 ≡ 2 * length (sha512 message))
 
--- so many hexadecimal digits, of either case, and nothing else (RFC 4648 section 8)
+-- exactly this number of hexadecimal digits, of either case (RFC 4648 section 8)
 abbrev pub IsHexDigest : DigestName → List ℕ → Type 0
 IsHexDigest name text = (length text ≡ digit_count name) × AllPass is_hex_digit text
 
@@ -62,7 +62,7 @@ IsMalformed name entry = (entry.0 ≡ spelling name) × ¬ IsHexDigest name entr
 abbrev pub IsWellFormed : List ℕ × List ℕ → Type 0
 IsWellFormed entry = (name : DigestName) → ¬ IsMalformed name entry
 
--- a subject with at most 32 digests, of which none is malformed
+-- a subject with at most 32 digests, and none of them is malformed
 abbrev pub IsSound : DigestTexts → Type 0
 IsSound digests = (length digests ≤ 32) × AllByRecursion IsWellFormed digests
 
@@ -70,7 +70,7 @@ IsSound digests = (length digests ≤ 32) × AllByRecursion IsWellFormed digests
 abbrev pub HasTooMany : ℕ → DigestTexts → Type 0
 HasTooMany count digests = (length digests ≡ count) × (32 < count)
 
--- a subject with at most 32 digests, of which the first malformed one, in byte order of the names, has this name
+-- a subject with at most 32 digests, whose first malformed one, in byte order of the names, has this name
 abbrev pub HasMalformed : DigestName → DigestTexts → Type 0
 HasMalformed name digests = (length digests ≤ 32) × IsFirst IsWellFormed (IsMalformed name) digests
 
@@ -103,7 +103,7 @@ pub record PayloadFaultsHaveTheirCause : Type 0 where
       → (digests_of_payload payload ≡ Err (Subjects fault)) ↔
       ((statement : Statement) × (statement_of payload ≡ Some statement) × IsCauseOf fault statement)
 
--- the payload is a statement, of which these are the digests of the named entries
+-- the payload is a statement, and these are the digests of its named entries
 abbrev pub ArePayloadDigests : List ℕ → List ArtifactDigest → Type 0
 ArePayloadDigests payload digests = (statement : Statement) × IsStatement payload statement × AreTaken statement digests
 

@@ -52,7 +52,7 @@ TakesTheNamed =
     (statement : Statement) (digests : List ArtifactDigest) → (digests_or_fault statement ≡ Ok digests) ↔ AreTaken
     statement digests
 
--- none is found if and only if no entry is named
+-- no digest is found if and only if no entry is named
 abbrev pub FindsNone : Type 0
 FindsNone =
     (statement : Statement) → (digests_or_fault statement ≡ Err NoneRecognized) ↔

@@ -8,7 +8,7 @@ use Rattle.sig_dsse.specs.declared.recognized.SubjectFault.TheVariants as fault
 use Rattle.sig_dsse.specs.Recognized.{digests_or_fault}
 use Rattle.sig_dsse.specs.Statement.{Statement, statement_of}
 
--- out of memory alone is not a fault of the subjects
+-- only out of memory is not a fault of the subjects
 abbrev pub payload_fault : SubjectFault → PayloadFault
 payload_fault (fault.TooManySubjects count) = Subjects (fault.TooManySubjects count)
 payload_fault (fault.TooManyDigests count) = Subjects (fault.TooManyDigests count)

@@ -26,7 +26,7 @@ pub record HasHash (name : List ℕ) (d : Data) (bytes : List ℕ) : Type 0 wher
   pub held : HasText name d text
   pub read : decode_sized text 32 ≡ Ok bytes
 
--- a value that is this, or, where it is none, nothing or null
+-- a value that is this, or nothing or null if it is `None`
 abbrev pub MayHave : {A : Type 0} → (Data → A → Type 0) → List ℕ → Data → Option A → Type 0
 MayHave Is name d None = (value : Data) → get name d ≡ Some value → value ≡ null
 MayHave Is name d (Some x) = (value : Data) × HasMember name d value × Is value x

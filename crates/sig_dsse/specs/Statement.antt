@@ -37,7 +37,7 @@ subject_of d = do
   annotations ← optional Some (codes "annotations") d
   Some (record { name = name; digest = digest; annotations = annotations })
 
--- all but the predicate are required
+-- all except the predicate are required
 unfoldable pub statement_in : Data → Option Statement
 statement_in d = do
   statement_type ← required_text (codes "_type") d
@@ -51,6 +51,6 @@ statement_in d = do
     predicate = predicate;
   })
 
--- the statement that a payload is, none where it is not a document without floats or a member is not as it has to be
+-- the statement that a payload is, `None` if it is not a document without floats or a member is not as it has to be
 unfoldable pub statement_of : List ℕ → Option Statement
 statement_of payload = result_ok (record_in statement_in payload)

@@ -32,7 +32,7 @@ pub fn envelope_json(alloc: Global, envelope: &DsseEnvelope) -> Result<Text, Out
     Ok(Text::from(braced(alloc, &members)?))
 }
 
-/// Adds the member of some bytes, unless there are none.
+/// Adds the member of some bytes, unless they are empty.
 fn push_bytes(
     alloc: Global,
     members: &mut Vec<String>,

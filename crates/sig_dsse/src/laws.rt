@@ -37,8 +37,8 @@ pub fn equal_signatures(one: &DsseSignature, other: &DsseSignature) -> bool
 }
 
 /// Digests are taken of a statement if and only if its subjects and their digests are not too many, and these are the
-/// digests of the entries named `sha256` and `sha512`, one each and in order, and there is one. That there is none is
-/// told if and only if no entry is so named. It has no code.
+/// digests of the entries named `sha256` and `sha512`, one each and in order, and there is at least one. That there is
+/// none is reported if and only if no entry has such a name. It has no code.
 pub fn taken_digests()
     ensures taken { TakesTheNamed }
     ensures none { FindsNone }

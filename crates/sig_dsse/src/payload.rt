@@ -93,8 +93,8 @@ fn read_maps(alloc: Global, payload: &[u8]) -> Result<OwnedList<TextMap>, Payloa
     }
 }
 
-/// The same by the error of a record, as if the whole payload were read: `MEMBERS` has every name but `predicate`, of
-/// which nothing is asked.
+/// The same by the error of a record, as if the whole payload were read: `MEMBERS` has every name except `predicate`,
+/// of which nothing is required.
 fn read_digest_record(alloc: Global, payload: &[u8]) -> Result<OwnedList<TextMap>, JsonError>
     ensures { Answers JsonError.OutOfMemory (λ maps. maps) result (record_in digest_maps_in payload.now) }
 {

@@ -18,10 +18,10 @@ use sig_base::{OutOfMemory, TextMap};
 use std::alloc::Global;
 use thiserror::Error;
 
-/// How many subjects of a statement are read at most.
+/// The greatest number of subjects of a statement that are read.
 const MOST_SUBJECTS: usize = 1024;
 
-/// How many digests of a subject are read at most.
+/// The greatest number of digests of a subject that are read.
 const MOST_DIGESTS: usize = 32;
 
 /// The name of a digest that an artifact can be compared with.
@@ -156,7 +156,7 @@ fn push_entry(name: &str, text: &str, digests: &mut Digests) -> Result<(), Subje
     Ok(())
 }
 
-/// The digest of an entry; none under a name that is not known.
+/// Returns the digest of an entry; `None` under a name that is not known.
 #[tactic(auto, unfolding(crate::specs::Recognized::entry_digest))]
 fn read_digest(name: &str, text: &str) -> Result<Option<ArtifactDigest>, SubjectFault>
     ensures { listing result ≡ entry_digest (name.now, text.now) }

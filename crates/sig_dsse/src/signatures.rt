@@ -26,7 +26,7 @@ impl Model for SparseSignature {
 }
 
 impl DsseSignature {
-    /// The signature of which both parts are empty. It takes no memory.
+    /// Returns the signature whose parts are both empty. It takes no memory.
     pub fn without_parts(alloc: Global) -> DsseSignature
         ensures { result ≡ no_parts }
     {

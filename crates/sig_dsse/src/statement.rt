@@ -24,7 +24,7 @@ pub struct InTotoStatementV1 {
     pub subject: Subjects,
     /// The member `predicateType`: which kind of predicate it is.
     pub predicate_type: Text,
-    /// What is said, in any form; `None` if it is absent or null.
+    /// What is claimed, in any form; `None` if it is absent or null.
     pub predicate: Option<Document>,
 }
 
@@ -35,7 +35,7 @@ pub struct Subject {
     pub name: Option<Text>,
     /// Its digests by the names of their algorithms.
     pub digest: TextMap,
-    /// Further things that are said of it, in any form; `None` if they are absent or null.
+    /// Annotations of it, in any form; `None` if they are absent or null.
     pub annotations: Option<Document>,
 }
 
@@ -127,7 +127,7 @@ impl InTotoStatementV1 {
     }
 }
 
-/// The error for a statement that is not of the form that is wanted.
+/// The error for a statement that does not have the wanted form.
 fn unexpected(kind: UnexpectedKind) -> SigstoreError
     ensures { result ≡ UnexpectedError kind }
 {

@@ -18,7 +18,7 @@ pub struct SubjectDigests<'a> {
 pub(crate) enum Left<'a> {
     /// Subjects, each with its digests.
     Subjects(&'a [Subject]),
-    /// The digests of each subject alone.
+    /// Only the digests of each subject.
     Maps(&'a [TextMap]),
 }
 

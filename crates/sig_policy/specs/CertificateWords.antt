@@ -47,7 +47,7 @@ pub record HasIdentity (c : Cert) (identity : List ℕ) : Type 0 where
   pub are : HasIdentities c texts
   pub named : list_any (λ t. bytes_eq t identity) texts ≡ true
 
--- Why the policy of an identity does not hold, in the order in which it asks.
+-- Why the policy of an identity does not hold, in the order of its checks.
 pub data WhyNot (p : Claim) (c : Cert) : Type 0 where
   no_issuer : ((text : List ℕ) → ¬ HasText (fulcio 1) c text) → WhyNot p c
   other_issuer : (actual : List ℕ) → HasText (fulcio 1) c actual → actual ≢ p.issuer → WhyNot p c

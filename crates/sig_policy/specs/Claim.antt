@@ -1,6 +1,6 @@
 use Rattle.std.specs.Prelude.{ℕ, List}
 
--- Who is asked for, and who must have said so.
+-- The identity that is required, and the issuer that must have stated it.
 pub record Claim : Type 0 where
   pub identity : List ℕ
   pub issuer : List ℕ

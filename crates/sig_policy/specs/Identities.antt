@@ -50,7 +50,7 @@ is_issued_by issuer c = is_asked_text issuer (extension_text (fulcio 1) c)
 abbrev pub identity_holds : Claim → Cert → Bool
 identity_holds p c = is_issued_by p.issuer c && is_among_identities p.identity (identities c)
 
--- the issuer is asked first
+-- the issuer is checked first
 abbrev pub identity_refusal : Claim → Cert → Refusal
 identity_refusal p c =
     if is_issued_by p.issuer c then name_refusal p.identity (identities c)

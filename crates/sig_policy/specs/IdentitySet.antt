@@ -1,4 +1,4 @@
--- A set of texts, in which each is found without a look at the others.
+-- A set of texts, in which each is found without going over the others.
 use Rattle.std.specs.Prelude.{ℕ, List, Bool}
 use Rattle.std.specs.Borrow.{Bor}
 use Rattle.std.specs.Str.{bytes_eq}

@@ -18,7 +18,7 @@ IsMet c (rule.GitHubWorkflowRepository p) = HasText (fulcio 5) c p.0
 IsMet c (rule.GitHubWorkflowRef p) = HasText (fulcio 6) c p.0
 IsMet c (rule.Identity p) = HasText (fulcio 1) c p.issuer × IsNamed c p.identity
 
--- each of the rules is met, or one of them
+-- each of the rules is met, or at least one of them
 abbrev pub IsMetBy : RequestPolicy → Cert → Type 0
 IsMetBy (policy.All rules) c = All (IsMet c) rules
 IsMetBy (policy.Any rules) c = Any (IsMet c) rules

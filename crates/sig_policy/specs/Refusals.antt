@@ -4,7 +4,7 @@ use Rattle.sig_policy.specs.Failures.{IsAllOf}
 use Rattle.sig_policy.specs.declared.failure.PolicyError.{PolicyError}
 use Rattle.sig_policy.specs.declared.failure.PolicyError.TheVariants.{ExtensionNotFound, ExtensionCheckFailed, AnyOf}
 
--- *Refusal*: why a policy does not hold of a certificate. Out of memory is none.
+-- *Refusal*: why a policy does not hold of a certificate. Out of memory is not a refusal.
 mutual
   pub data Refusal : Type 0 where
     not_found : Refusal

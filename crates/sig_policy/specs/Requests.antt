@@ -58,12 +58,12 @@ all_refusal holds refusal ps = all_of (length ps) (refusals_of (refusals holds r
 
 -- ---- the policy of a request
 
--- none of an empty list does
+-- no policy of an empty list holds
 abbrev pub request_holds : RequestPolicy → Cert → Bool
 request_holds (All ps) c = list_all (λ p. leaf_holds p c) ps
 request_holds (Any ps) c = list_any (λ p. leaf_holds p c) ps
 
--- the refusals of those that do not hold, in order; or the number of policies alone
+-- the refusals of those that do not hold, in order; or only the number of policies
 abbrev pub request_refusal : RequestPolicy → Cert → Refusal
 request_refusal (All ps) c = all_refusal (λ p. leaf_holds p c) (λ p. leaf_policy_refusal p c) ps
 request_refusal (Any ps) c = any_of (length ps)

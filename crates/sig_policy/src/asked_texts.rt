@@ -1,5 +1,5 @@
-//! The texts that the rules of a policy ask for, each once and in order, so that whether a rule holds is found without a
-//! look at the others.
+//! The texts that the rules of a policy ask for, each once and in order, so that whether a rule holds is found without
+//! a look at the others.
 
 ghost use Rattle.std.specs.Prelude.{◌≡◌, ◌||◌, false, not, IfOk, OnOk};
 ghost use Rattle.sig_policy.specs.AskedTexts.{AreAskedBy, Tests, one_asked, passes, said_tests, unsaid_tests};
@@ -39,7 +39,7 @@ impl<'a> AskedTexts<'a> {
         Ok(asked)
     }
 
-    /// Nothing is asked for.
+    /// Returns the texts of no rules: nothing is asked for.
     fn none(alloc: Global) -> AskedTexts<'a>
         ensures { (t : Tests) → one_asked t result ≡ false }
     {

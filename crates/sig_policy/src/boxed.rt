@@ -27,7 +27,7 @@ pub struct AnyOf {
     children: Vec<Box<dyn VerificationPolicy>>,
 }
 
-/// A policy that holds if and only if each of its children does. It has one child at least.
+/// A policy that holds if and only if each of its children does. It has at least one child.
 #[derive(Drop)]
 pub struct AllOf {
     children: Vec<Box<dyn VerificationPolicy>>,
@@ -39,7 +39,7 @@ impl VerificationPolicy for AnyOf {
     ghost refusal = { λ p c. any_of (length p.children.items) };
 
     /// Returns `Ok` if and only if at least one child holds; else `AnyOf` with the number of children. It takes the
-    /// time of the children's own calls, and lets go each refusal before the next child is asked.
+    /// time of the children's own calls, and drops each refusal before it calls the next child.
     fn verify(&self, alloc: Global, cert: &Certificate) -> PolicyResult {
         verify_any(alloc, self.children.as_slice(), cert)
     }

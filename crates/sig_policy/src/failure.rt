@@ -13,7 +13,7 @@ use thiserror::Error;
 #[cycle(policy_error)]
 #[derive(Debug, Drop, Error)]
 pub enum PolicyError {
-    /// The certificate has not exactly one extension that the policy asks for, or its value has not the form that it
+    /// The certificate does not have exactly one extension of the policy's, or its value does not have the form that it
     /// must have.
     #[error("ExtensionNotFound")]
     ExtensionNotFound,
@@ -27,7 +27,7 @@ pub enum PolicyError {
         /// What the extension says.
         actual: Text,
     },
-    /// Policies of a list of which each has to hold do not hold.
+    /// In a list of which each policy has to hold, some do not.
     #[error("AllOf")]
     AllOf {
         /// The number of policies in the list.
@@ -35,7 +35,7 @@ pub enum PolicyError {
         /// The refusals of those that do not hold, in order.
         errors: PolicyErrors,
     },
-    /// No policy of a list of which one has to hold does.
+    /// In a list of which one policy has to hold, none does.
     #[error("AnyOf")]
     AnyOf {
         /// The number of policies in the list.

@@ -1,4 +1,4 @@
-//! `HeldPolicy`: the policy of a request, made ready to be asked of many certificates.
+//! `HeldPolicy`: the policy of a request, prepared for many certificates.
 
 ghost use Rattle.std.specs.Prelude.{◌≡◌, IfOk};
 ghost use Rattle.sig_policy.specs.AskedTexts.{AreAskedBy, rules_of};
@@ -15,11 +15,12 @@ use sig_certificate::Certificate;
 use std::alloc::Global;
 use std::marker::Model;
 
-/// The policy of a request, with the texts that its rules ask for, each once and in order. Contracts see the policy. It is
-/// borrowed, as the texts are.
+/// The policy of a request, with the texts that its rules ask for, each once and in order. Contracts see the policy. It
+/// is borrowed, as the texts are.
 ///
-/// It is made in one pass over the rules. After that, whether the policy holds of a certificate takes the time of what the
-/// certificate says, times the logarithm of the number of rules: [`RequestPolicy::holds_of`] goes over all rules each time.
+/// It is made in one pass over the rules. After that, whether the policy holds of a certificate takes the time of what
+/// the certificate says, times the logarithm of the number of rules: [`RequestPolicy::holds_of`] goes over all rules
+/// each time.
 #[derive(Drop)]
 pub struct HeldPolicy<'a> {
     policy: &'a RequestPolicy,
@@ -38,7 +39,7 @@ impl<'a> Model for HeldPolicy<'a> {
 }
 
 impl<'a> HeldPolicy<'a> {
-    /// Returns the policy, ready to be asked. Fails only if out of memory.
+    /// Returns the policy, prepared for many certificates. Fails only if out of memory.
     pub fn new(alloc: Global, policy: &'a RequestPolicy) -> Result<HeldPolicy<'a>, OutOfMemory>
         ensures { IfOk result (λ p. p ≡ policy.now) }
     {
@@ -53,7 +54,8 @@ impl<'a> HeldPolicy<'a> {
         self.policy
     }
 
-    /// Whether the policy holds of the certificate, as [`RequestPolicy::holds_of`] says it. Fails only if out of memory.
+    /// Whether the policy holds of the certificate, as [`RequestPolicy::holds_of`] says it. Fails only if out of
+    /// memory.
     pub fn holds_of(&self, alloc: Global, cert: &Certificate) -> Result<bool, OutOfMemory>
         ensures { IfOk result (λ b. b ≡ request_holds self.now cert.now) }
     {
@@ -75,7 +77,8 @@ fn rules_of(policy: &RequestPolicy) -> &LeafPolicies
     }
 }
 
-/// The policy as a list of one policy, of which one has to hold: so its refusal has nothing of the certificate.
+/// The policy as a list of one policy, of which one has to hold: so its refusal does not contain anything of the
+/// certificate.
 impl VerificationPolicy for HeldPolicy<'_> {
     ghost holds = { request_holds };
 

@@ -85,8 +85,8 @@ fn verify_name(alloc: Global, identity: &str, cert: &Certificate) -> PolicyResul
     judge_name(alloc, identity, &texts)
 }
 
-/// Returns the identities that the certificate names. `None` if it has not exactly one well-formed subject alternative
-/// name. Fails only if out of memory.
+/// Returns the identities that the certificate names. `None` if it does not have exactly one well-formed subject
+/// alternative name. Fails only if out of memory.
 pub(crate) fn identities(
     alloc: Global,
     cert: &Certificate,

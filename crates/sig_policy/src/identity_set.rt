@@ -8,8 +8,8 @@ use sig_base::OutOfMemory;
 use std::alloc::Global;
 use std::collections::BTreeSet;
 
-/// The identities, in order and as a set. They are absent if the certificate has not exactly one well-formed subject
-/// alternative name; the set is then empty.
+/// The identities, in order and as a set. They are absent if the certificate does not have exactly one well-formed
+/// subject alternative name; the set is then empty.
 #[derive(Drop)]
 pub(crate) struct IdentitySet<'a> {
     pub(crate) texts: Option<Vec<&'a str>>,

@@ -18,7 +18,7 @@ ghost use Rattle.sig_policy.specs.declared.request.RequestPolicy.{RequestPolicy}
 use crate::failure::PolicyError;
 
 /// An error says at most one refusal, so that exactly one error of a policy says its refusal of a certificate; and
-/// `OutOfMemory` says none.
+/// `OutOfMemory` does not say one.
 pub fn refusal_laws()
     ensures one { (r s : Refusal) (e : PolicyError) → IsRefusal r e → IsRefusal s e → r ≡ s }
     ensures memory { (r : Refusal) → ¬ IsRefusal r PolicyError.OutOfMemory }

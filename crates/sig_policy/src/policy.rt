@@ -1,4 +1,4 @@
-//! What a policy is: a predicate of certificates, with one refusal for each certificate of which it does not hold.
+//! What a policy is: a predicate of certificates, with one refusal for each certificate that does not meet it.
 
 ghost use Rattle.std.specs.Prelude.{Bool};
 ghost use Rattle.sig_certificate.specs.Certificate.{Cert};
@@ -17,7 +17,7 @@ pub trait VerificationPolicy: Drop {
     // The certificates of which the policy holds.
     ghost holds: { Self → Cert → Bool };
 
-    // The one refusal of a certificate of which it does not hold. Out of memory is none.
+    // The refusal of a certificate that does not meet the policy. Out of memory is not one.
     ghost refusal: { Self → Cert → Refusal };
 
     /// Returns `Ok` if and only if the policy holds of the certificate, unless memory ran out; else the error that

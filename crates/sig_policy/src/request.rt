@@ -82,7 +82,7 @@ impl VerificationPolicy for RequestPolicy {
     /// the number of policies.
     ///
     /// Each refusal has a copy of what the certificate says, so that many of a long text take their product in time
-    /// and in memory. [`holds_of`](RequestPolicy::holds_of) makes none.
+    /// and in memory. [`holds_of`](RequestPolicy::holds_of) does not make any.
     fn verify(&self, alloc: Global, cert: &Certificate) -> PolicyResult {
         // The extensions are looked up once, since whoever makes a certificate chooses how many it has.
         let said = said_by(alloc, cert)?;

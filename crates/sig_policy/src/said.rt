@@ -1,5 +1,5 @@
 //! What a certificate says to the policies of a request. Each extension is looked up once, and each identity is found
-//! without a look at the others, however many policies there are. Whether a policy holds costs no more than its own
+//! without going over the others, however many policies there are. Whether a policy holds costs no more than its own
 //! text, except for the logarithm of the number of names; the refusal of one that does not hold costs what the
 //! certificate says.
 

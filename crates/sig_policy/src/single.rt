@@ -44,7 +44,7 @@ pub trait SingleX509ExtPolicy {
 /// Whether the certificate has exactly one extension of the policy's object identifier, and its value is UTF-8 and the
 /// text that the policy asks for. Errors:
 ///
-/// - `ExtensionNotFound` if and only if it has none or several, or the value is not UTF-8;
+/// - `ExtensionNotFound` if and only if it does not have exactly one, or the value is not UTF-8;
 /// - `ExtensionCheckFailed`, with the policy's name, the text that it asks for and the text of the extension, if and
 ///   only if the certificate has one, and its value is another text;
 /// - `OutOfMemory`.

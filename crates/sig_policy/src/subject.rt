@@ -1,4 +1,4 @@
-//! What policies are asked of: a certificate, or what it says.
+//! What policies are about: a certificate, or what it says.
 
 ghost use Rattle.std.specs.Prelude.{◌≡◌, Bool, IfOk};
 ghost use Rattle.sig_policy.specs.Refusals.{Refusal};
@@ -10,12 +10,12 @@ use sig_base::OutOfMemory;
 use sig_certificate::Certificate;
 use std::alloc::Global;
 
-/// What policies of a type are asked of.
+/// What policies of a type are about.
 pub(crate) trait PolicySubject<P> {
     // The policies that hold of it.
     ghost holds: { Self → P → Bool };
 
-    // The one refusal of a policy that does not hold of it. Out of memory is none.
+    // The one refusal of a policy that does not hold of it. Out of memory is not one.
     ghost refusal: { Self → P → Refusal };
 
     /// Returns `Ok` if and only if the policy holds, unless memory ran out; else the error that says its refusal.

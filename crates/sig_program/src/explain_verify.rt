@@ -107,7 +107,7 @@ fn explain_refusal(
     explained_by(alloc, &plain, &explanation)
 }
 
-/// What was verified of a request with this log entry.
+/// Returns what was verified for a request with this log entry.
 fn verified_document(
     alloc: Global,
     request: &VerifyRequest,
@@ -120,7 +120,7 @@ fn verified_document(
     Ok(object.into_document())
 }
 
-/// Why a request is refused with this error.
+/// Returns why a request is refused with this error.
 fn refused_document(
     alloc: Global,
     request: &VerifyRequest,
@@ -133,7 +133,7 @@ fn refused_document(
     Ok(object.into_document())
 }
 
-/// What an explanation shows of a request.
+/// Returns what an explanation shows of a request.
 fn shown_inputs(request: &VerifyRequest) -> VerifyInputs<'_>
     ensures { inputs_of result ≡ shown_inputs request.entry.now }
 {

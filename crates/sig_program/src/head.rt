@@ -11,7 +11,7 @@ use sig_request::ClaimedHead;
 use sig_verify::Link;
 use std::alloc::Global;
 
-/// The first link that fails of a tree head of this size and root, or none.
+/// Returns the first link of a tree head of this size and root that fails, or `None`.
 pub fn failing_link_of(
     alloc: Global,
     head: &ClaimedHead,
@@ -31,7 +31,7 @@ pub fn failing_link_of(
     }
 }
 
-/// The first link after the checkpoint that fails, or none.
+/// Returns the first link after the checkpoint that fails, or `None`.
 fn failing_link_under(
     alloc: Global,
     head: &ClaimedHead,
@@ -82,7 +82,7 @@ fn head_key(alloc: Global, head: &ClaimedHead) -> Result<CosignVerificationKey, 
     }
 }
 
-/// Whether the checkpoint's note speaks of a tree of this size and root.
+/// Whether the checkpoint's note is of a tree of this size and root.
 fn is_matched(size: u64, root: &[u8; 32], checkpoint: &SignedNote<'_>) -> bool
     ensures { IsTrue result ↔ IsMatched size root.now checkpoint.now }
 {

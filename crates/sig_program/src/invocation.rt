@@ -8,19 +8,19 @@ use itoa::Buffer;
 use sig_base::Text;
 use sig_demo::MOST_ENTRIES;
 
-/// What the program is asked for.
+/// What the words ask the program to do.
 #[derive(Clone, Copy)]
 pub enum Invocation {
     /// The reply to a request.
     Reply(Command),
     /// The reply to a request, and why.
     Explanation(Explained),
-    /// `demo N`: `log` at work, on a made log of so many entries.
+    /// `demo N`: `log` on a generated log of N entries.
     Demo(u64),
 }
 
 impl Invocation {
-    /// Returns what the words ask for; `None` if and only if they ask for nothing. It takes no memory.
+    /// Returns what the words ask for; `None` if and only if they do not ask for anything. It takes no memory.
     #[tactic(auto, using(crate::proofs::Invocations::invocations))]
     pub fn asked(words: &[Text]) -> Option<Invocation>
         ensures { MatchOption result (¬ IsInvocation words.now) (Invokes words.now) }
@@ -32,8 +32,8 @@ impl Invocation {
     }
 }
 
-/// What words that name no command ask for; `None` if and only if that is neither an explanation nor `demo`. It
-/// takes no memory.
+/// Returns what words that do not name a command ask for; `None` if and only if that is neither an explanation nor
+/// `demo`. It takes no memory.
 #[tactic(auto, using(crate::proofs::Invocations::invocations))]
 fn explanation_or_demo(words: &[Text]) -> Option<Invocation>
     ensures { MatchOption result (IsNeither words.now) (Invokes words.now) }
@@ -47,7 +47,7 @@ fn explanation_or_demo(words: &[Text]) -> Option<Invocation>
     }
 }
 
-/// The number of entries that `demo` is asked for; `None` if and only if the words are not `demo` and a number from 1
+/// Returns the number of entries for `demo`; `None` if and only if the words are not `demo` and a number from 1
 /// to 4096. It takes no memory.
 #[tactic(auto, using(crate::proofs::Invocations::invocations, crate::proofs::CommandNames::naming))]
 fn demo_count(words: &[Text]) -> Option<u64>

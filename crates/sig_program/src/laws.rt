@@ -12,9 +12,10 @@ use sig_gate_command::laws::gate_lists;
 use sig_questions::laws::{questions_suffice, refusals};
 use sig_witness_command::laws::witness_lists;
 
-/// Nothing but the signatures that are asked for decides the reply of `log`, of `verify`, of `consistency`, of `audit`, of
-/// `witness` and of `gate`, also where no list of them is written; a link that `questions verify` names is the first that fails in `verify`, whatever is accepted;
-/// and a list that is written fits one request with the request that it is of.
+/// Nothing but the signatures that are asked for decides the reply of `log`, of `verify`, of `consistency`, of `audit`,
+/// of `witness` and of `gate`, also where no list of them is written; a link that `questions verify` names is the first
+/// that fails in `verify`, whatever is accepted; and a list that is written fits one request with the request that it
+/// is for.
 pub fn lists()
     ensures log { LogQuestionsSuffice }
     ensures verify { VerifyQuestionsSuffice }
@@ -27,7 +28,7 @@ pub fn lists()
         × ListsAreGivenBack ConsistencyQuestions × ListsAreGivenBack AuditQuestions
         × ListsAreGivenBack WitnessQuestions × ListsAreGivenBack GateQuestions }
 {
-    // The same of `audit`, `witness` and `gate`, and what the questions of `verify` decide.
+    // The same for `audit`, `witness` and `gate`, and what the questions of `verify` decide.
     audit_lists();
     witness_lists();
     gate_lists();

@@ -39,7 +39,7 @@ fn reply_to(alloc: Global, request: &LogRequest) -> Result<Reply, OutOfMemory>
     reply_under(alloc, request, verdict)
 }
 
-/// The first link that fails of a request, or none.
+/// Returns the first link of a request that fails, or `None`.
 #[tactic(auto, using(crate::proofs::LogVerdicts::verdicts))]
 pub(crate) fn failing_link(alloc: Global, request: &LogRequest) -> Result<Option<Link>, OutOfMemory>
     ensures { IfOk result (IsLogVerdict request.now) }
@@ -73,7 +73,7 @@ fn is_logged(request: &LogRequest) -> bool
     .is_ok()
 }
 
-/// The reply to a request of which this is the first link that fails, or none.
+/// Returns the reply to a request whose first failing link is this, or that has none.
 pub(crate) fn reply_under(
     alloc: Global,
     request: &LogRequest,
@@ -88,7 +88,7 @@ pub(crate) fn reply_under(
     }
 }
 
-/// The reply to a request of which every link holds.
+/// Returns the reply to a request for which every link holds.
 fn logged_reply(alloc: Global, request: &LogRequest) -> Result<Reply, OutOfMemory>
     requires { IsLogged request.now }
     ensures { IfOk result (IsLoggedReply request.now) }

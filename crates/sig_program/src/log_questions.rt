@@ -17,10 +17,10 @@ use std::alloc::Global;
 /// Returns the reply to a request's text: the list of the signatures that `log` asks for, each signature of the
 /// checkpoint over its note under the log's scheme and key, in order, with status 0; else `refused checkpoint` if the
 /// request's checkpoint has no reading, and `refused request` if the text is not a request of `log`, or text, list and
-/// `,"accepted":` would have more than 2^24 bytes together. Which signatures the request itself accepts does not matter.
-/// Fails only if out of memory.
+/// `,"accepted":` would have more than 2^24 bytes together. Which signatures the request itself accepts does not
+/// matter. Fails only if out of memory.
 ///
-/// Of two requests that differ in their accepted signatures alone, and in none of those that are asked for, `log`
+/// For two requests that differ only in accepted signatures that are not asked for, `log`
 /// has the same reply, also where no list is written.
 pub fn log_questions(alloc: Global, request: &[u8]) -> Result<Reply, OutOfMemory>
     ensures reply { IfOk result (IsReply LogQuestions request.now) }

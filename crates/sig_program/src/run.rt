@@ -71,11 +71,11 @@ impl From<OutOfMemory> for NoReply {
 /// Does what the words ask for, and returns the program's status.
 ///
 /// A command reads a request, at most 2^24 + 1 bytes of what the source has left, and writes one line: `logged I N` for
-/// `log`, `verified I N` for `verify`, `consistent M N` for `consistency` and `audited K W N` for `audit`, with status 0,
-/// if every link of the command holds, else `refused NAME` for the first that fails, with status 1, or 2 for the link
-/// `request`; of `audit` a link other than `request` has the index of its head or watched entry after its name. With
-/// status 0 a second line follows if the request gives the log's entries: if they have the size and the RFC 6962 root
-/// that the links are about, `entry I` for `log` and `verify`, and the logged body is the entry at the index I, or
+/// `log`, `verified I N` for `verify`, `consistent M N` for `consistency` and `audited K W N` for `audit`, with status
+/// 0, if every link of the command holds, else `refused NAME` for the first that fails, with status 1, or 2 for the
+/// link `request`; of `audit` a link other than `request` has the index of its head or watched entry after its name.
+/// With status 0 a second line follows if the request gives the log's entries: if they have the size and the RFC 6962
+/// root that the links are about, `entry I` for `log` and `verify`, and the logged body is the entry at the index I, or
 /// `prefix M` for `consistency`, and the old root is that of the first M entries, M being the old size, or `prefixes K`
 /// for `audit`, and each of the K heads is that of the list's first entries, each watched entry that at its index; or
 /// `collision HEX HEX`, two different byte strings of equal SHA-256; else `other list`.
@@ -83,24 +83,25 @@ impl From<OutOfMemory> for NoReply {
 /// `witness` writes a line for each update, an empty line, and the state of all kept heads after them, with status 0 if
 /// all updates were accepted, else 1; or `refused request` with status 2.
 ///
-/// `gate` reads a manifest, and writes for each artifact whether it is admitted, for each bundle whether it is verified,
-/// and how many artifacts are admitted, with status 0 if all are, else 1; or `refused request` with status 2.
+/// `gate` reads a manifest, and writes for each artifact whether it is admitted, for each bundle whether it is
+/// verified, and how many artifacts are admitted, with status 0 if all are, else 1; or `refused request` with status 2.
 ///
-/// `questions log`, `questions verify`, `questions consistency`, `questions audit`, `questions witness` and `questions gate`
-/// read a request of the command, and list the signatures that its reply can rest on, as a JSON list in the form of
-/// `accepted`, with status 0; else `refused NAME` for the first link that fails whatever signatures are accepted, and
-/// `refused request` if the bytes of the request, of the list and of `,"accepted":` would be more than 2^24 together, and
-/// of `gate` also if the signatures, each counted as often as a bundle asks for it, have more than 2^26 bytes.
+/// `questions log`, `questions verify`, `questions consistency`, `questions audit`, `questions witness` and `questions
+/// gate` read a request of the command, and list the signatures that its reply can rest on, as a JSON list in the form
+/// of `accepted`, with status 0; else `refused NAME` for the first link that fails whatever signatures are accepted,
+/// and `refused request` if the bytes of the request, of the list and of `,"accepted":` would be more than 2^24
+/// together, and for `gate` also if the signatures, each counted as often as a bundle asks for it, have more than 2^26
+/// bytes.
 ///
 /// `explain` before one of the first six commands reads the same request, and writes the lines of the command's reply,
-/// with its status; then, as the last line, what the links were about: of the first that fails its name, why it fails and
-/// what it compares, and where all hold what was verified; of `witness` this of each update, of `gate` of each bundle. The
-/// line is one JSON object without white space, whose members come in byte order.
+/// with its status; then, as the last line, what the links were about: for the first that fails, its name, why it fails
+/// and what it compares; if all hold, what was verified; for `witness` this for each update, for `gate` for each
+/// bundle. The line is one JSON object without white space, whose members come in byte order.
 ///
 /// `demo N`, N from 1 to 4096 in decimal without leading zeros, reads nothing, and writes three lines with status 0:
 /// `entries N`, `root HEX` and `logged I N`, of [`demo`].
 ///
-/// The reply is whole before its first byte is written, and each write is handed all that is left of it. Other
+/// The reply is whole before its first byte is written, and each write is given all that is left of it. Other
 /// statuses:
 ///
 /// - 64: the words are none of these. Nothing is read, no memory is taken (no call on the way has the allocator), and
@@ -115,8 +116,8 @@ pub fn run<S: Source, K: Sink>(alloc: Global, words: &[Text], source: &mut S, si
     // The headline: what `Answered` says of the reply is that every link holds if the status is 0, and that else it
     // shows the first that fails; and of the log's entries, where they are given, what `IsSecondLine` says, for
     // `consistency` what `IsFrontLine` does, and for `audit` what `IsListLine` does. For `witness` it is that the state
-    // which is written is *Witness run*'s, and the lines say what became of each update; for `gate`, that an artifact is
-    // admitted if and only if one of its bundles is verified and its rule holds of those that are.
+    // which is written is *Witness run*'s, and the lines say what became of each update; for `gate`, that an artifact
+    // is admitted if and only if one of its bundles is verified and its rule holds of those that are.
     ensures answered { result < 3 →
         Answered words.now (S.left source.old) (S.left source.new) (K.taken sink.old) (K.taken sink.new) result }
     ensures usage { result ≡ usage_status → ¬ IsInvocation words.now
@@ -137,9 +138,9 @@ pub fn run<S: Source, K: Sink>(alloc: Global, words: &[Text], source: &mut S, si
     ensures later { (S.faults source.old ≤ S.faults source.new) × (K.faults sink.old ≤ K.faults sink.new) }
 
     // Nothing else matters: of the accepted signatures of a request of `log`, `consistency`, `audit` or `witness`, its
-    // reply depends on those alone that are a signature of one of its checkpoints, over the note, under the log's scheme
-    // and key; and of a request of `verify` or `gate` on those alone that a link asks for. `questions` lists them; where it
-    // writes no list, as that is too long or a link fails whatever is accepted, the same holds.
+    // reply depends on those alone that are a signature of one of its checkpoints, over the note, under the log's
+    // scheme and key; and of a request of `verify` or `gate` on those alone that a link asks for. `questions` lists
+    // them; where it writes no list, as that is too long or a link fails whatever is accepted, the same holds.
     ensures suffice { LogQuestionsSuffice × VerifyQuestionsSuffice × ConsistencyQuestionsSuffice
         × AuditQuestionsSuffice × WitnessQuestionsSuffice × GateQuestionsSuffice }
 

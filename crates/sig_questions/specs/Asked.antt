@@ -1,4 +1,4 @@
--- *Question*: what the links of the chain of trust ask a checker, of inputs whose parts are there (RFC 5280 section
+-- *Question*: what the links of the chain of trust ask a checker, for inputs whose parts are there (RFC 5280 section
 -- 6.1.3; RFC 6962 section 3.2; DSSE protocol; Rekor's signed entry timestamp; the checkpoint format of
 -- transparency-dev).
 use Rattle.std.specs.Prelude.{◌≡◌, ◌⊎◌, ℕ, List, [], ◌∷◌, Option, Some, slice_get}
@@ -28,8 +28,8 @@ use Rattle.sig_questions.specs.Rows.{certificate_row, message_row, point_row, pr
 
 -- ---- the certificate
 
--- A certification path would lead from the certificate over the further ones of its bundle to a trust anchor, at the first
--- second of the certificate's validity, if every signature of a certificate were genuine; and of it this holds.
+-- A certification path would lead from the certificate over the further ones of its bundle to a trust anchor, at the
+-- first second of the certificate's validity, if every signature of a certificate were genuine; and of it this holds.
 abbrev pub OfPath : Trust → Checked → (List Cert → Cert → Type 0) → Type 0
 OfPath trust c P = OfPossiblePath (pool_over trust.anchors c.further) c.certificate c.certificate.not_before P
 
@@ -37,18 +37,18 @@ OfPath trust c P = OfPossiblePath (pool_over trust.anchors c.further) c.certific
 abbrev pub signature_row : Cert → Cert → AcceptedRow
 signature_row y x = certificate_row x.spki y.algorithm y.tbs y.signature
 
--- two certificates of such a path, of which the one comes after the other
+-- two certificates of such a path, one right after the other
 abbrev pub IsCertificateRow : Trust → Checked → AcceptedRow → Type 0
 IsCertificateRow trust c row = OfPath trust c (λ path anchor.
     (y : Cert) × (x : Cert) × IsNext c.certificate path anchor y x × (row ≡ signature_row y x))
 
--- who issued the certificate in a path
+-- the issuer of the certificate in a path
 abbrev pub issuer_in : List Cert → Cert → Cert
 issuer_in [] anchor = anchor
 issuer_in (x ∷ xs) anchor = x
 
--- the one SCT of a certificate, over the certificate as issued under the key of x, under the point of the SCT's log; what
--- it signs has bytes
+-- the one SCT of a certificate, over the certificate as issued under the key of x, under the point of the SCT's log;
+-- what it signs has bytes
 abbrev pub IsPointRowUnder : (List ℕ → Option (List ℕ)) → Cert → Cert → AcceptedRow → Type 0
 IsPointRowUnder points c x row = OfSct c (λ s. IsLong (precertificate c) × IsShort s.extensions
     × (point : List ℕ) × (points s.log_id ≡ Some point)

@@ -40,8 +40,8 @@ pub record IsAskedRootOf (text : List ℕ) (now : ℤ) (asked : AskedRoot) : Typ
   pub read : trusted_root_in text ≡ Ok root
   pub given : IsTrustIn root now asked.trust
 
--- what reading a text returns: what is made of its root, or `root-json` if the text is not a trusted root, unless memory
--- ran out
+-- what reading a text returns: what is made of its root, or `root-json` if the text is not a trusted root, unless
+-- memory ran out
 abbrev pub IsAskedRootIn : List ℕ → ℤ → Result AskedRoot NoQuestions → Type 0
 IsAskedRootIn text now (Ok asked) = IsAskedRootOf text now asked
 IsAskedRootIn text now (Err (Link link)) = (link ≡ RootJson) × ((why : JsonError) × (trusted_root_in text ≡ Err why))
@@ -61,7 +61,7 @@ IsAnsweredOf asked d b most result =
     (root_text : List ℕ) (now : ℤ) (text : List ℕ) → IsAskedRootOf root_text now asked → bundle_in text ≡ Ok b
     → IsAnswered (inputs_of root_text now d text) most result
 
--- of a text of a bundle
+-- the result for the text of a bundle
 abbrev pub IsAnsweredIn : AskedRoot → ArtifactDigest → List ℕ → ℕ → Listing → Type 0
 IsAnsweredIn asked d text most result =
     (root_text : List ℕ) (now : ℤ) → IsAskedRootOf root_text now asked

@@ -11,8 +11,8 @@ use Rattle.sig_questions.specs.Questions.{AreQuestions}
 abbrev pub is_of : Operation → AcceptedRow → Bool
 is_of operation row = nat_eq (operation_code row.operation) (operation_code operation)
 
--- Beside so many trust anchors: a bundle has at most 17 certificates, and of these at most 16 and the trust anchors may have
--- signed one. So many rows at most are of signatures of certificates, and so many of the certificate's SCT.
+-- For this number of trust anchors: a bundle has at most 17 certificates, and of these at most 16 and the trust anchors
+-- may have signed one. These bound the rows of signatures of certificates, and those of the certificate's SCT.
 pub record AreFewBeside (anchors : ℕ) (rows : List AcceptedRow) : Type 0 where
   pub certificates : count_by (is_of Certificate) rows ≤ 17 * (16 + anchors)
   pub points : count_by (is_of Point) rows ≤ 16 + anchors

@@ -1,4 +1,4 @@
--- The links before `issuer`, which ask for no signature: those of a bundle all hold, or the first that fails is told.
+-- The links before `issuer`, which ask for no signature: those of a bundle all hold, or this is the first that fails.
 use Rattle.std.specs.Prelude.{◌≢◌, ℤ, true, List, [], ◌∷◌, ◌++◌, Option, Some, None, Result, Ok, Err}
 use Rattle.std.specs.List.{AllByRecursion}
 use Rattle.sig_base.specs.Rules.{FailsFirst}
@@ -35,7 +35,7 @@ unread link other = Link link
 abbrev pub bundle_front : List LinkType
 bundle_front = bundle_links ++ Issuance ∷ []
 
--- what a link asks of a bundle beside signatures
+-- what a link requires of a bundle beside signatures
 abbrev pub HoldsOfUnasked : Trusted → ArtifactDigest → Bundle → LinkType → Type 0
 HoldsOfUnasked trusted d b = HoldsOfVerified accepting.checker accepting.policy (trust_of trusted) d true b
 

@@ -33,7 +33,7 @@ Listing = Result (List AcceptedRow) NoQuestions
 abbrev pub trust_in : TrustParts → Trust
 trust_in parts = record { anchors = parts.anchors; points = point_at parts.keyring }
 
--- all rows, unless there is none of a certificate, or they are too long
+-- all rows, unless there is no row of a certificate, or they are too long
 abbrev pub AreListedAs : List AcceptedRow → List AcceptedRow → ℕ → Listing → Type 0
 AreListedAs signed all most (Ok rows) = (rows ≡ all) × (signed ≢ []) × (bytes_of_rows rows ≤ most)
 AreListedAs signed all most (Err TooLong) = (signed ≢ []) × (most < bytes_of_rows all)
@@ -55,7 +55,7 @@ abbrev pub ReadIfOk : TrustParts → Checked → Listing → Type 0
 ReadIfOk parts c (Ok rows) = IsReadCertificate c × IsOfBytes parts.log_keys c.entry
 ReadIfOk parts c (Err error) = Unit {0}
 
--- of a bundle, under a root
+-- what is listed for a bundle, under a root
 pub record AreListedOf (root : TrustedRoot) (now : ℤ) (d : ArtifactDigest) (b : Bundle) (most : ℕ)
     (result : Listing) : Type 0 where
   pub parts : TrustParts

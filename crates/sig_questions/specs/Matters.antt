@@ -1,4 +1,5 @@
--- Each question matters: some link rests on it. For the signature of a certificate it is said exactly when `issuer` does.
+-- Each question matters: some link depends on it. For the signature of a certificate it is said exactly when `issuer`
+-- does.
 use Rattle.std.specs.Prelude.{◌≡◌, ◌⊎◌, ◌↔◌, List, [], ◌∷◌, ◌++◌, Contains}
 use Rattle.sig_base.specs.Checker.{accepted}
 use Rattle.sig_base.specs.Scheme.{name_of}
@@ -52,8 +53,9 @@ OfStep i row P = OfChecked i (λ trust c. OfPath trust c (λ path anchor.
     (lower : List Cert) × (upper : List Cert) × (path ≡ lower ++ upper)
     × (row ≡ signature_row (last_of c.certificate lower) (issuer_in upper anchor)) × P trust lower upper))
 
--- A shortcut goes past the step: a lower intermediate has the subject and the SPKI of an upper one, or of a trust anchor.
--- Whom the lower one signed the other one signed as well, so that the path can go on from there and leave the step out.
+-- A shortcut goes past the step: a lower intermediate has the subject and the SPKI of an upper one, or of a trust
+-- anchor. Whom the lower one signed the other one signed as well, so that the path can go on from there and leave the
+-- step out.
 pub record HasShortcut (trust : Trust) (lower upper : List Cert) : Type 0 where
   pub below : Cert
   pub above : Cert
@@ -63,13 +65,13 @@ pub record HasShortcut (trust : Trust) (lower upper : List Cert) : Type 0 where
 
 -- ---- the laws
 
--- A law of the definitions: none is asked for nothing. Some link rests on each question, or it is the signature of an
+-- A law of the definitions: no question is useless. Some link depends on each question, or it is the signature of an
 -- intermediate in a path that has a shortcut past it.
 abbrev pub EachQuestionMatters : Type 0
 EachQuestionMatters = (i : Inputs) (row : AcceptedRow) → IsAskedBy i row → Matters i row ⊎ OfStep i row HasShortcut
 
--- A law of the definitions: `issuer` rests on a signature if and only if some path has it in a step that no shortcut goes
--- past.
+-- A law of the definitions: `issuer` rests on a signature if and only if some path has it in a step that no shortcut
+-- goes past.
 abbrev pub IssuerRestsOnSteps : Type 0
 IssuerRestsOnSteps = (i : Inputs) (row : AcceptedRow)
     → RestsOn i Issuer row ↔ OfStep i row (λ trust lower upper. ¬ HasShortcut trust lower upper)

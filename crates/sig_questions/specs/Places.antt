@@ -1,4 +1,4 @@
--- *Places of the questions*: which signature is asked of at each place, and under whose key.
+-- *Places of the questions*: which signature is asked about at each place, and under whose key.
 use Rattle.std.specs.Prelude.{◌≡◌, ◌↔◌, ℕ, ◌+◌, ◌*◌, Bool, true, false, length, Option, Some, None, slice_get}
 use Rattle.sig_certificate.specs.Certificate.{Cert}
 use Rattle.sig_checked_bundle.specs.Checked.{Checked}
@@ -16,7 +16,7 @@ abbrev pub IsSignedAt : ℕ → Checked → Option Cert → Type 0
 IsSignedAt place c None = place ≡ 0
 IsSignedAt place c (Some y) = (index : ℕ) × (place ≡ index + 1) × (slice_get c.further index ≡ Some y)
 
--- the signature of each certificate is asked of under all keys in order, before that of the next
+-- the signature of each certificate is asked about under all keys in order, before that of the next
 abbrev pub IsPairAt : ℕ → Trust → Checked → Pair → Type 0
 IsPairAt place trust c pair =
     (signed signer : ℕ) × (place ≡ signed * (length trust.anchors + length c.further) + signer)

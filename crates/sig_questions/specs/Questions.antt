@@ -23,7 +23,7 @@ use Rattle.sig_questions.specs.declared.listing.NoQuestions.TheVariants.{Link, T
 
 -- ---- nothing else matters
 
--- two checkers say the same of each row of which this holds
+-- two checkers agree on each row of which this holds
 pub record AgreeWhere (Holds : AcceptedRow → Type 0) (one other : Checker) : Type 0 where
   pub message : (scheme : VerifyScheme) (spki message signature : List ℕ)
       → Holds (message_row scheme spki message signature)
@@ -37,7 +37,7 @@ pub record AgreeWhere (Holds : AcceptedRow → Type 0) (one other : Checker) : T
       → Holds (certificate_row issuer algorithm tbs signature)
       → one.cert issuer algorithm tbs signature ≡ other.cert issuer algorithm tbs signature
 
--- of the links of the chain of trust this one is the first that fails
+-- this is the first link of the chain of trust that fails
 abbrev pub FailsFirstInChain : Outside → Inputs → LinkType → Type 0
 FailsFirstInChain o i link = FailsFirst (HoldsOf o i) chain_links link
 
@@ -58,7 +58,7 @@ QuestionsSuffice = (i : Inputs) → Suffices (IsAskedBy i) i
 
 -- ---- the list
 
--- of what the root and the bundle give, these are the rows in their order
+-- these are the rows of what the root and the bundle give, in their order
 abbrev pub AreQuestions : Inputs → List AcceptedRow → Type 0
 AreQuestions i rows =
     OfRoot i (λ root. OfTrust root i.now (λ trust. OfPassed i (λ c. rows ≡ questions_of i.digest trust
@@ -92,8 +92,8 @@ accepting = record {
   policy = record { holds = λ c. true; refusal = λ c. not_found };
 }
 
--- What a link asks beside signatures. Those before `issuer` ask for none; `issuer`, that a path would lead to a trust
--- anchor if every signature were genuine.
+-- What a link requires beside signatures. Those before `issuer` ask for none; `issuer`, that a path would lead to a
+-- trust anchor if every signature were genuine.
 abbrev pub HoldsUnasked : Inputs → LinkType → Type 0
 HoldsUnasked i link = HoldsOf accepting i link
 
@@ -103,7 +103,8 @@ front_links =
     RootJson ∷ BundleJson ∷ Fulcio ∷ Anchor ∷ Ctfe
     ∷ Material ∷ Certificate ∷ Leaf ∷ RootInChain ∷ Content ∷ Envelope ∷ Entry ∷ Profile ∷ Issuance ∷ []
 
--- the links that are asked before there is a question: if all hold, `issuer` asks for the signature of the certificate
+-- the links that are checked before there is a question: if all hold, `issuer` asks for the signature of the
+-- certificate
 abbrev pub question_links : List LinkType
 question_links = front_links ++ Issuer ∷ []
 

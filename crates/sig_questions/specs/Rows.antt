@@ -46,7 +46,7 @@ certificate_row issuer algorithm tbs signature = record {
   signature = signature;
 }
 
--- a scheme of a row of this operation: a scheme's name for a message and a digest, none for a point, any bytes for a
+-- a scheme of a row of this operation: a scheme's name for a message and a digest, nothing for a point, any bytes for a
 -- certificate
 abbrev pub IsSchemeUnder : Operation → List ℕ → Type 0
 IsSchemeUnder Message scheme = (named : VerifyScheme) × (scheme ≡ name_of named)

@@ -25,7 +25,7 @@ AddsRows old rows (Err TooLong) new = old.room < bytes_of_rows rows
 AddsRows old rows (Err OutOfMemory) new = Unit {0}
 AddsRows old rows (Err (Link link)) new = ⊥
 
--- so much room is left after so many bytes
+-- this is the room that is left after this number of bytes
 abbrev pub IsSpent : ℕ → ℕ → Result ℕ NoQuestions → Type 0
 IsSpent room count (Ok left) = left + count ≡ room
 IsSpent room count (Err TooLong) = room < count
@@ -50,7 +50,7 @@ row_under y x = signature_row y.certificate.now x.now ∷ []
 abbrev pub rows_of_signed : PossibleSigners → List AcceptedRow
 rows_of_signed y = flat_map (row_under y) y.signers.items
 
--- of the SCT of a certificate, as issued under the key of x
+-- the row of the SCT of a certificate, as issued under the key of x
 abbrev pub point_questions : (List ℕ → Option (List ℕ)) → Cert → Cert → List AcceptedRow
 point_questions points c x = embedded_questions points (ready c x.spki (sct_of c))
 
@@ -65,7 +65,7 @@ rows_of_points points y = flat_map (point_under points y) y.signers.items
 abbrev pub rows_of_paths : PossiblePaths → List AcceptedRow
 rows_of_paths paths = rows_of_signed paths.leaf ++ flat_map rows_of_signed paths.further.items
 
--- and those after them
+-- the rows after those of the paths
 abbrev pub rows_after : PossiblePaths → TrustParts → ArtifactDigest → Checked → List AcceptedRow
 rows_after paths trust d c = rows_of_points (point_at trust.keyring) paths.leaf
     ++ (content_questions d c ++ entry_questions trust.log_keys c.entry)

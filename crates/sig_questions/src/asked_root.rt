@@ -12,7 +12,7 @@ use sig_verify::laws::roots;
 use sig_verify::{Link, Verifier};
 use std::alloc::Global;
 
-/// What a trusted root gives at a time: that of which the questions of bundles are made, or which link fails. It is read
+/// What a trusted root gives at a time: what the questions of bundles are made from, or which link fails. It is read
 /// and made once, by [`AskedRoot::read`], for all bundles of which [`AskedRoot::questions`] lists the questions.
 #[derive(Drop)]
 pub struct AskedRoot {
@@ -29,8 +29,8 @@ pub(crate) struct AskedTrust {
 }
 
 impl AskedRoot {
-    /// Returns what the trusted root that this text is gives at a time in whole seconds since 1970. Fails with `Link` of
-    /// `root-json` if and only if the text is not a trusted root, unless memory runs out, and else only with
+    /// Returns what the trusted root that this text is gives at a time in whole seconds since 1970. Fails with `Link`
+    /// of `root-json` if and only if the text is not a trusted root, unless memory runs out, and else only with
     /// `OutOfMemory`. The links `fulcio`, `anchor` and `ctfe` come after `bundle-json`: the first of them that fails is
     /// kept, and [`AskedRoot::questions`] fails with it.
     pub fn read(alloc: Global, text: &[u8], now: i64) -> Result<AskedRoot, NoQuestions>

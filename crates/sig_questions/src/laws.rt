@@ -8,7 +8,7 @@ ghost use Rattle.sig_questions.specs.Questions.{QuestionsSuffice, RefusalsAreFor
 
 use sig_certificate::laws::certificates;
 
-/// Two checkers that say the same of each question have the same links that hold, under every policy.
+/// Two checkers that agree on each question have the same links that hold, under every policy.
 pub fn questions_suffice()
     ensures { QuestionsSuffice }
 {
@@ -16,9 +16,9 @@ pub fn questions_suffice()
     certificates();
 }
 
-/// With the row of a question in a table some link holds that does not hold without it; or the row is the signature of an
-/// intermediate in a path that would lead to a trust anchor if every signature of a certificate were genuine, and the
-/// path has a shortcut past that signature.
+/// With the row of a question in a table some link holds that does not hold without it; or the row is the signature of
+/// an intermediate in a path that would lead to a trust anchor if every signature of a certificate were genuine, and
+/// the path has a shortcut past that signature.
 pub fn each_matters()
     ensures { EachQuestionMatters }
 {
@@ -26,10 +26,10 @@ pub fn each_matters()
     certificates();
 }
 
-/// There is a table with which `issuer` holds where it has the row, and does not where it lacks the row, if and only if a
-/// path that would lead to a trust anchor has the row as a signature of a certificate past which no shortcut goes: no
-/// intermediate below the signature, the signed one included, has the subject and the SPKI of one above it, or of a trust
-/// anchor.
+/// There is a table with which `issuer` holds where it has the row, and does not where it lacks the row, if and only if
+/// a path that would lead to a trust anchor has the row as a signature of a certificate past which no shortcut goes: no
+/// intermediate below the signature, the signed one included, has the subject and the SPKI of one above it, or of a
+/// trust anchor.
 pub fn issuer_rests()
     ensures { IssuerRestsOnSteps }
 {
@@ -45,8 +45,9 @@ pub fn one_list()
     certificates();
 }
 
-/// The keys are those of the trust anchors in order, and then those of the further certificates in order. The signatures
-/// are that of the certificate under each key in order, and then those of the further certificates in order, each so.
+/// The keys are those of the trust anchors in order, and then those of the further certificates in order. The
+/// signatures are that of the certificate under each key in order, and then those of the further certificates in order,
+/// each so.
 pub fn places()
     ensures signers { SignersAreInOrder }
     ensures pairs { PairsAreInOrder }
@@ -57,8 +58,8 @@ pub fn schemes()
     ensures { QuestionsHaveSchemes }
 {}
 
-/// Of n trust anchors at most 17 times (16 + n) questions are about signatures of certificates, and at most 16 + n about
-/// SCTs.
+/// For n trust anchors at most 17 times (16 + n) questions are about signatures of certificates, and at most 16 + n
+/// about SCTs.
 pub fn few()
     ensures { QuestionsAreFew }
 {}
@@ -68,7 +69,7 @@ pub fn refusals()
     ensures { RefusalsAreForAll }
 {}
 
-/// What is listed of texts of which the links before `issuer` hold are the questions, in order, or none if no path
+/// If the links before `issuer` hold of texts, what is listed are the questions, in order, or nothing if no path
 /// would lead to a trust anchor.
 pub(crate) fn listed_texts()
     ensures { ListedTextsAreAnswered }

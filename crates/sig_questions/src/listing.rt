@@ -87,7 +87,8 @@ impl From<AllocError> for NoQuestions {
 /// 1970, `digest` is that of the artifact, and `most` is how many bytes all parts of all rows may have together. The
 /// rows come in the order in which the links ask:
 ///
-/// - the certificate, and then each further one of the bundle, under the keys of the trust anchors and then of the further
+/// - the certificate, and then each further one of the bundle, under the keys of the trust anchors and then of the
+///   further
 ///   certificates: those of two that come one after the other in a path from the certificate to a trust anchor that
 ///   would hold if every signature were genuine (RFC 5280 section 6.1);
 /// - what its SCT signs, under the point of the SCT's log, as issued under each of these keys in such a path (RFC 6962
@@ -113,7 +114,7 @@ pub fn questions(
     // A row is listed if and only if a link asks it.
     ensures asked { IfOk result (λ rows. (row : row_type) → Contains rows row ↔ IsAskedBy
         (record { root = trusted_root.now; now = now; digest = digest.now; bundle = bundle.now }) row) }
-    // Nothing else matters: checkers that say the same of each row have the same links that hold, under each policy.
+    // Nothing else matters: checkers that agree on each row have the same links that hold, under each policy.
     ensures suffice { IfOk result (λ rows. Suffices (Contains rows)
         (record { root = trusted_root.now; now = now; digest = digest.now; bundle = bundle.now })) }
     // The rows are those of each group of links, one after the other.
@@ -123,11 +124,11 @@ pub fn questions(
     // that were signed and of those that signed, or of the signatures of the note.
     ensures places { IfOk result (AreInOrder (IsAskedAt
         (record { root = trusted_root.now; now = now; digest = digest.now; bundle = bundle.now }))) }
-    // Of n trust anchors at most 17 * (16 + n) rows are of signatures of certificates, and at most 16 + n of the SCT.
+    // For n trust anchors at most 17 * (16 + n) rows are of signatures of certificates, and at most 16 + n of the SCT.
     ensures few { IfOk result (AreFewQuestions
         (record { root = trusted_root.now; now = now; digest = digest.now; bundle = bundle.now })) }
     // A link is refused if and only if it is the first of those up to `issuer` that fails whatever the checker and the
-    // policy say; where none is, the rows are returned if and only if they have at most so many bytes.
+    // policy say; where none is, the rows are returned if and only if they have at most `most` bytes.
     ensures decided { IsDecided
         (record { root = trusted_root.now; now = now; digest = digest.now; bundle = bundle.now }) most result }
 {
@@ -163,11 +164,11 @@ impl AskedRoot {
         // Of two positions the smaller is of an earlier link, or of the same link and an earlier place.
         ensures places { (root : List ℕ) (now : ℤ) → IsAskedRootOf root now self.now
             → IfOk result (AreInOrder (IsAskedAt (inputs_of root now digest.now bundle.now))) }
-        // There are at most so many rows beside so many trust anchors.
+        // The number of trust anchors bounds the number of rows.
         ensures few { (root : List ℕ) (now : ℤ) → IsAskedRootOf root now self.now
             → IfOk result (AreFewQuestions (inputs_of root now digest.now bundle.now)) }
-        // A link is refused if and only if it is the first that fails whatever the checker and the policy say; where none
-        // is, the rows are returned if and only if they have at most so many bytes.
+        // A link is refused if and only if it is the first that fails whatever the checker and the policy say; where
+        // none is, the rows are returned if and only if they have at most `most` bytes.
         ensures decided { (root : List ℕ) (now : ℤ) → IsAskedRootOf root now self.now
             → IsDecided (inputs_of root now digest.now bundle.now) most result }
     {
@@ -232,8 +233,8 @@ fn list_under(
     }
 }
 
-/// The rows of a bundle of which the links up to `issuance` hold. Fails otherwise only as they do not fit, or as no path
-/// would lead to a trust anchor.
+/// The rows of a bundle of which the links up to `issuance` hold. Fails otherwise only as they do not fit, or as no
+/// path would lead to a trust anchor.
 fn list_checked(
     alloc: Global,
     trust: &TrustParts,

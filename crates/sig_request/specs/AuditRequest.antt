@@ -29,14 +29,14 @@ watch_of d = do
   entry ← required_bytes (codes "entry") d
   Some (record { head = head; index = index; hashes = hashes; entry = entry })
 
--- from 1 to 256 heads, at most 4,096 watched entries, and each of these under one of the heads
+-- from 1 to 256 heads, at most 4,096 watched entries, each of these under one of the heads
 pub record AreWithin (heads : List HeadText) (watched : List Watch) : Type 0 where
   pub some : 1 ≤ length heads
   pub most : length heads ≤ 256
   pub few : length watched ≤ 4096
   pub under : AllByRecursion (λ (watch : Watch). watch.head < length heads) watched
 
--- each watched entry is under one of so many heads
+-- each watched entry is under one of this number of heads
 abbrev pub are_under : ℕ → List Watch → Bool
 are_under count watched = list_all (λ (watch : Watch). nat_lt watch.head count) watched
 
@@ -46,7 +46,7 @@ is_within heads watched =
     nat_lt 0 (length heads) && (nat_lt (length heads) 257 && (nat_lt (length watched) 4097
     && are_under (length heads) watched))
 
--- the request, if its heads and watched entries are so many, and each of these is under one of the heads
+-- the request, if it has as many heads and watched entries as it may, each of these under one of the heads
 abbrev pub kept_within : AuditRequest → Option AuditRequest
 kept_within request = if is_within request.heads request.watched then Some request else None
 

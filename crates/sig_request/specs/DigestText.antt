@@ -19,7 +19,7 @@ pub record IsDigestText (text : List ℕ) (digest : ArtifactDigest) : Type 0 whe
   pub whole : text ≡ digest_algorithm digest ++ (codes ":" ++ digits)
   pub bytes : decode_sized digits (digest_len digest) ≡ Ok (digest_bytes digest)
 
--- so many bytes, whose digits are what is after this beginning of the text
+-- the bytes, `size` of them, whose digits follow this beginning of the text
 abbrev pub bytes_after : List ℕ → ℕ → List ℕ → Option (List ℕ)
 bytes_after beginning size text = after_separator beginning text >>= λ digits. result_ok (decode_sized digits size)
 

@@ -16,7 +16,7 @@ use Rattle.sig_request.specs.Row.{no_kind}
 
 -- ---- a rule: `identity` with `issuer`, or one of `issuer`, `trigger`, `sha`, `name`, `repository`, `ref`
 
--- an identity by the word of an issuer, or an issuer alone; nothing for an identity alone
+-- an identity with its issuer, or only an issuer; nothing for an identity without an issuer
 unfoldable pub issuer_policy : Option (List ℕ) → Option (List ℕ) → Option (Option LeafPolicy)
 issuer_policy None None = Some None
 issuer_policy None (Some issuer) = Some (Some (OIDCIssuer (record { 0 = issuer })))
@@ -24,7 +24,7 @@ issuer_policy (Some identity) (Some issuer) =
     Some (Some (Identity (record { identity = identity; issuer = issuer })))
 issuer_policy (Some identity) None = None
 
--- one policy at most: the one that was found before, or the next; nothing where both are there
+-- at most one policy: the one that was found before, or the next; nothing if both are there
 unfoldable pub one_at_most : Option LeafPolicy → Option LeafPolicy → Option (Option LeafPolicy)
 one_at_most found None = Some found
 one_at_most None (Some next) = Some (Some next)
@@ -46,7 +46,7 @@ repository_is text = GitHubWorkflowRepository (record { 0 = text })
 abbrev pub ref_is : List ℕ → LeafPolicy
 ref_is text = GitHubWorkflowRef (record { 0 = text })
 
--- the one of these that is there, if any; nothing where two are
+-- the one of these that is there, if any; nothing if two are there
 unfoldable pub one_of_five : Option (List ℕ) → Option (List ℕ) → Option (List ℕ) → Option (List ℕ) → Option (List ℕ)
     → Option (Option LeafPolicy)
 one_of_five trigger sha name repository git_ref = do
@@ -65,7 +65,7 @@ workflow_policy d = do
   git_ref ← optional text_of (codes "ref") d
   one_of_five trigger sha name repository git_ref
 
--- exactly one of both
+-- exactly one of the two
 unfoldable pub exactly_one : Option LeafPolicy → Option LeafPolicy → Option LeafPolicy
 exactly_one (Some policy) None = Some policy
 exactly_one None (Some policy) = Some policy

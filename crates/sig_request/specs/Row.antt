@@ -30,7 +30,7 @@ scheme_kind d = text_of d >>= scheme_named
 abbrev pub entries_of : Data → Option (List (List ℕ))
 entries_of d = list_each bytes_of d
 
--- no value: a member that has to be absent or null is an optional one of this kind
+-- the kind without a value: a member that has to be absent or null is an optional one of this kind
 abbrev pub no_kind : Data → Option ⊤
 no_kind d = None
 

@@ -28,10 +28,10 @@ use sig_json::{
 };
 use std::alloc::Global;
 
-/// An audit has at most so many heads, and at least one.
+/// The greatest number of heads of an audit, which has at least one.
 pub const MOST_HEADS: usize = 256;
 
-/// An audit has at most so many watched entries.
+/// The greatest number of watched entries of an audit.
 pub const MOST_WATCHES: usize = 4096;
 
 /// A head as a request of `audit` gives it.
@@ -142,7 +142,7 @@ fn kept_within(request: AuditRequest) -> Result<AuditRequest, MemberError>
     Err(MemberError::Member)
 }
 
-/// Whether there are so many heads and watched entries as a request may have, and each of these is under one of the
+/// Whether there are as many heads and watched entries as a request may have, and each of these is under one of the
 /// heads.
 fn is_within(heads: &[HeadText], watched: &[Watch]) -> bool
     ensures { result ≡ is_within heads.now watched.now }
@@ -154,7 +154,7 @@ fn is_within(heads: &[HeadText], watched: &[Watch]) -> bool
         && are_under(count, watched)
 }
 
-/// Whether each watched entry is under one of so many heads.
+/// Whether each watched entry is under one of this number of heads.
 fn are_under(count: usize, watched: &[Watch]) -> bool
     ensures { result ≡ are_under count watched.now }
 {

@@ -1,4 +1,4 @@
-//! The policy of a request, of which the program asks only whether it holds.
+//! The policy of a request, where the program only asks whether it holds.
 ghost use Rattle.sig_policy.specs.Refusals.{any_of};
 ghost use Rattle.sig_policy.specs.Requests.{request_holds};
 
@@ -6,9 +6,9 @@ use sig_certificate::Certificate;
 use sig_policy::{PolicyError, PolicyResult, RequestPolicy, VerificationPolicy};
 use std::alloc::Global;
 
-/// The policy of a request as a list of one policy, of which one has to hold. So its refusal has nothing of the
-/// certificate, where that of the request's policy has a copy of what the certificate says for each rule that does not
-/// hold: more than memory has room for, of as many rules and as long a text as a request may have.
+/// The policy of a request as a list of one policy, of which one has to hold. So its refusal does not contain anything
+/// of the certificate, where that of the request's policy has a copy of what the certificate says for each rule that
+/// does not hold: more than memory holds, for as many rules and as long a text as a request may have.
 #[derive(Drop)]
 pub struct BriefPolicy<'a> {
     /// The policy of the request.

@@ -60,7 +60,7 @@ fn sha256_bytes(text: &str) -> Option<[u8; 32]>
     }
 }
 
-/// What is after this beginning of the text; `None` if the text does not begin so.
+/// What is after this beginning of the text; `None` if the text does not begin with it.
 fn text_after<'a>(text: &'a str, beginning: &str) -> Option<&'a str>
     ensures { option_map (λ t. t.now) result ≡ after_separator beginning.now text.now }
 {

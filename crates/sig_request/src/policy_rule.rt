@@ -45,8 +45,8 @@ impl ElementReader for RuleReader {
     }
 }
 
-/// The policy of an identity by the word of an issuer, or of an issuer alone; `None` without both. Fails with `Member`
-/// for an identity alone.
+/// The policy of an identity with its issuer, or of an issuer only; `None` without both. Fails with `Member`
+/// for an identity without an issuer.
 #[tactic(auto, unfolding(crate::specs::Policy::issuer_policy))]
 fn issuer_policy(
     alloc: Global,
@@ -172,7 +172,7 @@ fn ref_is(text: Option<Text>) -> Option<LeafPolicy>
     }
 }
 
-/// The one policy of both. Fails with `Member` if none or both are there.
+/// Returns the only policy of the two. Fails with `Member` unless exactly one is there.
 #[tactic(auto, unfolding(crate::specs::Policy::exactly_one, crate::specs::Policy::one_at_most))]
 fn exactly_one(
     by_issuer: Option<LeafPolicy>,

@@ -9,10 +9,10 @@ use std::alloc::{AllocError, Global};
 /// A request has at most this many bytes, 2^24.
 pub const MOST_BYTES: usize = 16_777_216;
 
-/// No more bytes than this are ever taken: one more than a request may have shows that there are too many.
+/// The number of bytes that are taken at most: one more than a request may have, to see that it is too long.
 pub const REQUEST_LIMIT: usize = 16_777_217;
 
-/// How many bytes are asked for at a time.
+/// How many bytes one call of the source may give.
 const REQUEST_PIECE: usize = 16_384;
 
 /// Why a request could not be read.

@@ -22,7 +22,7 @@ pub trait RequestReader {
     /// What a request is read as.
     type Item: Drop;
 
-    // What contracts see of the request with these rows of `accepted`; none where another member is not as it has to
+    // What contracts see of the request with these rows of `accepted`; `None` if another member is not as it has to
     // be.
     ghost meaning: { List row_type → Data → Option Self.Item };
 
