@@ -20,7 +20,7 @@ use Rattle.sig_json.specs.Record.{record_in}
 use Rattle.sig_json.specs.declared.error.JsonError.{JsonError}
 use Rattle.sig_attestation.specs.declared.body.Spelled.{Spelled}
 
--- ---- what is asked beyond `sig_checked_bundle`'s reading: the texts of the hashes, and one signature
+-- ---- what is required beyond `sig_checked_bundle`'s reading: the texts of the hashes, and one signature
 
 abbrev pub hash_text_of : Data → Option (List ℕ)
 hash_text_of d = required_text (codes "value") d

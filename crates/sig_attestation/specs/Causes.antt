@@ -1,5 +1,5 @@
--- *Causes of an attestation's refusals*: what a bundle attests, and the first rule that another breaks: the rules before
--- it hold, and this one does not.
+-- *Causes of an attestation's refusals*: what a bundle attests, and the first rule that another breaks: the rules
+-- before it hold, and this one does not.
 use Rattle.std.specs.Prelude.{◌≡◌, ◌≢◌, ◌⊎◌, ℕ, List, [], ◌∷◌, ◌++◌, length, codes, Option, Some, None, Ok}
 use Rattle.hex.specs.Hex.{encode_lower}
 use Rattle.sig_base.specs.ByText.{text_lookup}
@@ -42,45 +42,45 @@ pub record Asked : Type 0 where
 abbrev pub asked : AcceptsSpki → Option Keys → List ℕ → List ℕ → Asked
 asked spki keys source text = record { spki = spki; keys = keys; source = source; text = text }
 
--- the error is of this kind, and this is so
+-- the error is of this kind, and this holds
 abbrev pub Told : SigstoreError → UnexpectedKind → Type 0 → Type 0
 Told e k P = (e ≡ UnexpectedError k) × P
 
--- ---- the parts that a rule speaks of
+-- ---- the parts that a rule is about
 
--- the text is a bundle, of which this holds
+-- the text is a bundle, and this holds of it
 abbrev pub OfBundle : List ℕ → (Bundle → Type 0) → Type 0
 OfBundle text P = (b : Bundle) × (bundle_in text ≡ Ok b) × P b
 
--- its content is an envelope, of which this holds
+-- its content is an envelope, and this holds of it
 abbrev pub OfEnvelope : Bundle → (DsseEnvelope → Type 0) → Type 0
 OfEnvelope b P = (v : DsseEnvelope) × (b.content ≡ Some (Envelope v)) × P v
 
--- its payload is a statement, of which this holds
+-- its payload is a statement, and this holds of it
 abbrev pub OfStatement : DsseEnvelope → (Statement → Type 0) → Type 0
 OfStatement v P = (s : Statement) × (statement_of v.payload ≡ Some s) × P s
 
--- the first subject has a SHA-256, of which this holds
+-- the first subject has a SHA-256, and this holds of it
 abbrev pub OfSha256 : Statement → (List ℕ → Type 0) → Type 0
 OfSha256 s P = (sha256 : List ℕ) × FirstHasSha256 sha256 s.subject × P sha256
 
--- the envelope has one signature, of which this holds
+-- the envelope has one signature, and this holds of it
 abbrev pub OfSignature : DsseEnvelope → (DsseSignature → Type 0) → Type 0
 OfSignature v P = (signature : DsseSignature) × (v.signatures ≡ signature ∷ []) × P signature
 
--- the bundle has material, of which this holds
+-- the bundle has material, and this holds of it
 abbrev pub OfMaterial : Bundle → (VerificationMaterial → Type 0) → Type 0
 OfMaterial b P = (m : VerificationMaterial) × (b.verification_material ≡ Some m) × P m
 
--- the material is a certificate, of which this holds
+-- the material is a certificate, and this holds of it
 abbrev pub OfCertificate : VerificationMaterial → (List ℕ → Type 0) → Type 0
 OfCertificate m P = (der : List ℕ) × (m.content ≡ Some (Certificate der)) × P der
 
--- it has one log entry, of which this holds
+-- it has one log entry, and this holds of it
 abbrev pub OfEntry : VerificationMaterial → (TransparencyLogEntry → Type 0) → Type 0
 OfEntry m P = (t : TransparencyLogEntry) × (m.tlog_entries ≡ t ∷ []) × P t
 
--- the caller has keys of logs, of which this holds
+-- the caller has keys of logs, and this holds of them
 abbrev pub OfKeys : Asked → (Keys → Type 0) → Type 0
 OfKeys q P = (keys : Keys) × (q.keys ≡ Some keys) × P keys
 
@@ -88,13 +88,13 @@ OfKeys q P = (keys : Keys) × (q.keys ≡ Some keys) × P keys
 abbrev pub OfId : TransparencyLogEntry → (List ℕ → Type 0) → Type 0
 OfId t P = (id : List ℕ) × (t.log_id ≡ Some id) × P id
 
--- there is a key of that id, of which this holds
+-- there is a key of that id, and this holds of it
 abbrev pub OfKey : Keys → List ℕ → (CosignVerificationKey → Type 0) → Type 0
 OfKey keys id P = (key : CosignVerificationKey) × (text_lookup (encode_lower id) keys ≡ Some key) × P key
 
 -- ---- what is attested
 
--- the digest is the text, alone or after `sha256:`
+-- the digest is the text, by itself or after `sha256:`
 abbrev pub IsDigest : List ℕ → List ℕ → Type 0
 IsDigest digest sha256 =
     (digest ≡ codes "sha256:" ++ sha256)
@@ -154,7 +154,7 @@ IsEntryFault q t e =
     ⊎ OfKey keys id (λ key. (why : OfflineError) × (e ≡ log_refusal why)
     × IsLogFault (key_accepts q.spki key) t why)))
 
--- no signer is named, or not by a single certificate
+-- no signer is named, or the signer is not named by a single certificate
 abbrev pub IsSignerFault : Option MaterialContent → SigstoreError → Type 0
 IsSignerFault content e =
     Told e kind.MaterialMissing (content ≡ None)

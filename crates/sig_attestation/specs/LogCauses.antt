@@ -1,5 +1,5 @@
--- *Vouched entry*: what the log of a key has to say of an entry, and the first rule that it breaks (Rekor's signed entry
--- timestamp; the checkpoint format of transparency-dev; RFC 6962 section 2.1.1).
+-- *Vouched entry*: what the log of a key has to say of an entry, and the first rule that it breaks (Rekor's signed
+-- entry timestamp; the checkpoint format of transparency-dev; RFC 6962 section 2.1.1).
 use Rattle.std.specs.Prelude.{◌≡◌, ◌⊎◌, ℕ, List, Some, None, true, Ok, Err}
 use Rattle.sig_base.specs.declared.error.SigstoreError.{SigstoreError}
 use Rattle.sig_bundle.specs.Promise.{promise_tree_of}
@@ -17,11 +17,11 @@ use Rattle.sig_verify.specs.OfflineErrors.{of_fields, of_proof}
 use Rattle.sig_verify.specs.declared.offline_error.OfflineError.{OfflineError}
 use Rattle.sig_verify.specs.declared.offline_error.OfflineError.TheVariants as error
 
--- there is a promise, of which this holds
+-- there is a promise, and this holds of it
 abbrev pub OfPromise : TransparencyLogEntry → (List ℕ → Type 0) → Type 0
 OfPromise t P = (promise : List ℕ) × (t.inclusion_promise ≡ Some promise) × P promise
 
--- the promise has a canonical JSON (RFC 8785), of which this holds
+-- the promise has a canonical JSON (RFC 8785), and this holds of it
 abbrev pub OfText : TransparencyLogEntry → (List ℕ → Type 0) → Type 0
 OfText t P = (text : List ℕ) × (canonical_of (promise_tree_of t) ≡ Ok text) × P text
 
@@ -29,7 +29,7 @@ OfText t P = (text : List ℕ) × (canonical_of (promise_tree_of t) ≡ Ok text)
 abbrev pub IsPromised : AcceptsUnder → TransparencyLogEntry → Type 0
 IsPromised accepts t = OfPromise t (λ promise. OfText t (λ text. accepts text promise ≡ true))
 
--- the members are a proof, of which this holds
+-- the members are a proof, and this holds of it
 abbrev pub OfRead : ProofFields → (InclusionProof → Type 0) → Type 0
 OfRead p P = (proof : InclusionProof) × IsProof p proof × P proof
 
@@ -45,7 +45,7 @@ IsVouched accepts t = IsPromised accepts t × IsProved accepts t
 
 -- ---- the first rule that does not hold
 
--- of the promise: it is there, its integers are within plus or minus 2^53 - 1, it is signed
+-- the promise is there, its integers are within plus or minus 2^53 - 1, it is signed
 abbrev pub IsPromiseFault : AcceptsUnder → TransparencyLogEntry → OfflineError → Type 0
 IsPromiseFault accepts t why =
     ((why ≡ error.PromiseMissing) × (t.inclusion_promise ≡ None))
@@ -53,7 +53,7 @@ IsPromiseFault accepts t why =
     ((why ≡ error.PromiseInteger) × (canonical_of (promise_tree_of t) ≡ Err IntegerTooLarge))
     ⊎ OfText t (λ text. (why ≡ error.Promise) × ¬ (accepts text promise ≡ true)))
 
--- of the proof: it is there, its members are a proof, and it is accepted, as `InclusionProof::verify` says
+-- the proof is there, its members are a proof, and it is accepted, as `InclusionProof::verify` says
 abbrev pub IsInclusionFault : AcceptsUnder → TransparencyLogEntry → OfflineError → Type 0
 IsInclusionFault accepts t why =
     ((why ≡ error.ProofMissing) × (t.inclusion_proof ≡ None))

@@ -1,6 +1,6 @@
 -- *Logged once*: what the body of a log's entry says of an envelope and its one signature, member by member (Rekor's
--- entry of kind `dsse`, version 0.0.1): it is a logged envelope, whose hashes are spelled in lower-case hexadecimal, and
--- it has no second signature.
+-- entry of kind `dsse`, version 0.0.1): it is a logged envelope, whose hashes are spelled in lower-case hexadecimal,
+-- and it has no second signature.
 use Rattle.std.specs.Prelude.{◌≡◌, ℕ, List, codes, Some, Ok}
 use Rattle.hex.specs.Hex.{encode_lower}
 use Rattle.sig_base.specs.Sha256.{sha256}
@@ -11,7 +11,7 @@ use Rattle.sig_json.specs.Data.{Data, array, item, no_items}
 use Rattle.sig_json.specs.Document.{document_of}
 use Rattle.sig_json.specs.Find.{get}
 
--- under the name stands a hash, of which the text is this
+-- the member of this name is a hash whose text is this
 pub record HasDigits (name : List ℕ) (d : Data) (digits : List ℕ) : Type 0 where
   pub part : Data
   pub held : get name d ≡ Some part

@@ -18,7 +18,7 @@ use Rattle.sig_attestation.specs.declared.stated.Stated.{Stated}
 
 -- ---- what is kept
 
--- the SHA-256 of a subject, none where it has none
+-- the SHA-256 of a subject, `None` if it is absent
 abbrev pub sha256_of : Subject → Option (List ℕ)
 sha256_of subject = text_lookup (codes "sha256") subject.digest
 
@@ -35,7 +35,7 @@ stated statement = record {
 abbrev pub stated_in : Data → Option Stated
 stated_in d = option_map stated (statement_in d)
 
--- of the statement that a payload is
+-- what is kept of the statement that a payload is
 abbrev pub stated_of : List ℕ → Result Stated SigstoreError
 stated_of payload = ok_or (option_map stated (statement_of payload)) (UnexpectedError NoStatement)
 

@@ -16,7 +16,7 @@ use Rattle.sig_verify.specs.declared.logged_entry.LoggedEntry.{LoggedEntry}
 use Rattle.sig_verify.specs.declared.offline_error.OfflineError.{OfflineError}
 use Rattle.sig_verify.specs.declared.offline_error.OfflineError.TheVariants as offline
 
--- the error of an entry that a log does not vouch for, under its name here; there are no others than these
+-- the error of an entry that a log does not vouch for, under its name here; there are no other errors
 abbrev pub log_refusal : OfflineError → SigstoreError
 log_refusal offline.PromiseMissing = sigstore.UnexpectedError kind.PromiseMissing
 log_refusal offline.PromiseInteger = sigstore.UnexpectedError kind.PromiseInteger

@@ -19,8 +19,8 @@ use sig_json::JsonError;
 use sig_key::VerificationKeys;
 use std::alloc::Global;
 
-/// What a bundle of `cosign` attests of an image. The log vouches for the signature; whether the certificate is trusted,
-/// and whether its key signed, is not asked.
+/// What a bundle of `cosign` attests of an image. The log vouches for the signature; whether the certificate is
+/// trusted, and whether its key signed, is not checked.
 #[derive(Drop)]
 pub struct Attestation {
     /// The type of the statement's predicate.
@@ -37,7 +37,7 @@ pub struct Attestation {
     pub entry: TransparencyLogEntry,
 }
 
-/// What is attested beside the image.
+/// What a bundle attests beside the image.
 #[derive(Drop)]
 struct Evidence {
     signed: Bytes,
@@ -53,23 +53,24 @@ struct Evidence {
 /// - `ContentNotDsse`: its content is not an envelope;
 /// - `PayloadType`: the payload's type is not `application/vnd.in-toto+json`;
 /// - `Statement`: the payload is not a statement;
-/// - `StatementType`, `PredicateType`, `NoSubjects`, `FirstSubjectWithoutSha256`: it is none of `cosign`, as
+/// - `StatementType`, `PredicateType`, `NoSubjects`, `FirstSubjectWithoutSha256`: it is not one of `cosign`, as
 ///   [`validate_cosign_v1`](sig_dsse::InTotoStatementV1::validate_cosign_v1) says;
 /// - `SubjectDigest`: the first subject's SHA-256 is not `source_image_digest` without a leading `sha256:`;
 /// - `SignatureCount` with the number of signatures, which is not one;
 /// - `MaterialMissing`: there is no verification material, or it names no signer;
 /// - `MaterialNotCertificate`: it is not a single certificate;
 /// - `EntryCount` with the number of log entries, which is not one;
-/// - `KeysMissing`: no keys of logs are handed in;
+/// - `KeysMissing`: no keys of logs are given;
 /// - `LogIdMissing`: the entry names no log;
-/// - `RekorPublicKeyNotFoundError`, an error of its own, with the log id in lower-case hexadecimal: there is no key of it;
+/// - `RekorPublicKeyNotFoundError`, its own error, with the log id in lower-case hexadecimal: there is no key of this
+///   id;
 /// - those of [`vouched`](sig_verify::vouched) from `PromiseMissing` to `CheckpointMissing`; and
 ///   `ParseCheckpointError`, `CheckpointSignatureVerificationError`, `ConsistencyProofError` and `InclusionProofError`,
 ///   errors of their own;
 /// - `Body`: the entry's body is not about the envelope, its signature and the certificate, as
 ///   [`is_about_envelope`](sig_checked_bundle::is_about_envelope) says, with exactly one signature and hashes in
 ///   lower-case hexadecimal;
-/// - `OutOfMemory`, an error of its own.
+/// - `OutOfMemory`, its own error.
 pub fn read_attestation<C: SignatureChecker>(
     alloc: Global,
     bundle: &[u8],
@@ -83,7 +84,7 @@ pub fn read_attestation<C: SignatureChecker>(
     ensures only { (attestation : attestation_type) → IsAttestation
         (asked (C.spki_accepts checker.now) (option_map (λ k. k.now) rekor_pub_keys.entry) source_image_digest.now bundle.now)
         attestation → UnlessMemory SigstoreError.OutOfMemory result (result ≡ Ok attestation) }
-    // An error comes if and only if the rules before its own hold, and its own does not.
+    // An error comes if and only if the rules before its own hold, and its own does not hold.
     ensures err { IfErr result (λ e. OrMemory SigstoreError.OutOfMemory e (IsFault
         (asked (C.spki_accepts checker.now) (option_map (λ k. k.now) rekor_pub_keys.entry) source_image_digest.now bundle.now) e)) }
     ensures refused { (e : refusal_type) → IsFault
@@ -94,7 +95,7 @@ pub fn read_attestation<C: SignatureChecker>(
         (attestation_answer (C.spki_accepts checker.now) (option_map (λ k. k.now) rekor_pub_keys.entry)
         source_image_digest.now bundle.now) }
 {
-    // Which members an inclusion proof has, and what is refused of others.
+    // Which members an inclusion proof has, and which others are rejected.
     proofs();
     proof_faults();
     attested_by_text(alloc, bundle, source_image_digest, rekor_pub_keys, checker)
@@ -189,7 +190,7 @@ fn copied_evidence(
 ) -> std::result::Result<Evidence, OutOfMemory>
     ensures { IfOk result (λ evidence. evidence ≡ evidence_of envelope.now signature.now certificate.now entry.now) }
 {
-    // What has most parts comes last: what is there already is dropped where the next copy fails.
+    // What has most parts is copied last: a failing copy drops those before it.
     let signed = compute_pae(
         alloc,
         envelope.payload_type.as_str(),

@@ -149,7 +149,8 @@ fn is_about(
     is_about_envelope(alloc, envelope, payload, signature, certificate, body)
 }
 
-/// Whether the body has one signature, and the hashes of both in lower-case hexadecimal. Fails only if out of memory.
+/// Whether the body has one signature, and the hashes of both texts in lower-case hexadecimal. Fails only if out of
+/// memory.
 fn is_spelled(
     alloc: Global,
     envelope: &[u8],

@@ -1,5 +1,5 @@
-//! What a Sigstore bundle of `cosign` attests of a container image: a statement of the image's digest, signed by the key
-//! of a certificate, and an entry of a log, which vouches for the signature.
+//! What a Sigstore bundle of `cosign` attests about a container image: a statement of the image's digest, signed by the
+//! key of a certificate, and an entry of a log, which vouches for the signature.
 //!
 //! ```text
 //! {"mediaType":"application/vnd.dev.sigstore.bundle.v0.3+json",
@@ -10,10 +10,10 @@
 //!                                  "subject":[{"digest":{"sha256":"ba78.."}}]}
 //! ```
 //!
-//! The layer above uses one fact. What is returned of a text are the parts of its bundle, if and only if the bundle is
-//! one of `cosign` about the image, the log of its entry vouches for the entry by a promise and a proof, and the entry's
-//! body is about the envelope and its one signature; and else the first rule that is broken is told. Whether the
-//! certificate is trusted, and whether its key signed the envelope, is not asked here.
+//! The layer above uses one fact. The result for a text is the parts of its bundle, if and only if the bundle is
+//! one of `cosign` about the image, the log of its entry vouches for the entry by a promise and a proof, and the
+//! entry's body is about the envelope and its one signature; and else the first broken rule is the error. Whether the
+//! certificate is trusted, and whether its key signed the envelope, is not checked here.
 #![tactic(auto)]
 
 mod attestation;

@@ -35,8 +35,8 @@ pub(crate) fn check_entry<C: SignatureChecker>(
     check_vouched(alloc, entry, key, checker)
 }
 
-/// The key of the log of this id. Fails with `RekorPublicKeyNotFoundError` and the id in lower-case hexadecimal if there
-/// is none.
+/// The key of the log of this id. Fails with `RekorPublicKeyNotFoundError` and the id in lower-case hexadecimal if
+/// there is not one.
 fn log_key<'k>(
     alloc: Global,
     keys: &'k VerificationKeys,

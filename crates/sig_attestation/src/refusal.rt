@@ -6,7 +6,7 @@ ghost use Rattle.sig_attestation.specs.Vouching.{IsLogRefusal, log_refusal};
 use sig_base::{SigstoreError, UnexpectedKind};
 use sig_verify::OfflineError;
 
-/// The error for an entry that a log does not vouch for; there are no others than these.
+/// The error for an entry that a log does not vouch for; there are no other errors.
 pub(crate) fn log_refusal(error: OfflineError) -> SigstoreError
     requires { IsLogRefusal error }
     ensures { result ≡ log_refusal error }

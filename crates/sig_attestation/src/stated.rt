@@ -1,5 +1,5 @@
-//! What is kept of a statement about an image: its types, and the SHA-256 of each subject. What else it has is tested as
-//! its reader tests it, and not copied; no tree is made of the predicate.
+//! What is kept of a statement about an image: its types, and the SHA-256 of each subject. What else it has is tested
+//! as its reader tests it, and not copied; no tree is made of the predicate.
 ghost use Rattle.std.specs.Prelude.{◌≡◌, codes, IfOk};
 ghost use Rattle.sig_base.specs.Answers.{Answers};
 ghost use Rattle.sig_base.specs.ByText.{text_lookup};
@@ -23,7 +23,7 @@ pub(crate) struct Stated {
     /// Which version of statements it is.
     pub(crate) statement_type: Text,
     pub(crate) predicate_type: Text,
-    /// The SHA-256 of each subject, `None` where it has none.
+    /// The SHA-256 of each subject, `None` if it is absent.
     pub(crate) sha256s: OwnedList<Option<Text>>,
 }
 
@@ -93,8 +93,8 @@ pub(crate) fn read_stated(alloc: Global, payload: &[u8]) -> sig_base::Result<Sta
     }
 }
 
-/// The same by the error of a record, as if the whole payload were read: `MEMBERS` has every name but `predicate`, of
-/// which nothing is asked.
+/// The same by the error of a record, as if the whole payload were read: `MEMBERS` has every name except `predicate`,
+/// of which nothing is required.
 fn read_stated_record(alloc: Global, payload: &[u8]) -> Result<Stated, JsonError>
     ensures { Answers JsonError.OutOfMemory (λ said. said) result (record_in stated_in payload.now) }
 {

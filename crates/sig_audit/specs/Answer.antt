@@ -43,7 +43,7 @@ head_answer accepts first before place head =
     else Err (Origin place))
     else Err (NoteKey place)
 
--- the check of a watch under its head, if it is one
+-- the check of a watch under its head, if there is one
 abbrev pub path_answer : ℕ → Watch → Option AuditHead → Result (Unit {0}) AuditError
 path_answer place watch None = Err (Head place)
 path_answer place watch (Some head) =

@@ -1,4 +1,4 @@
--- *Chained heads*: tree heads, the oldest first, of which each shows that its tree has that of the head before it as
+-- *Chained heads*: tree heads, the oldest first, each of which shows that its tree has that of the head before it as
 -- its first leaves (RFC 6962 section 2.1.2).
 use Rattle.std.specs.Prelude.{◌≢◌, List, [], ◌∷◌}
 use Rattle.sig_merkle.specs.ConsistencyAnswer.{IsConsistent}
@@ -13,7 +13,7 @@ abbrev pub HaveGrownFrom : ChainHead → List ChainHead → Type 0
 HaveGrownFrom before [] = Unit {0}
 HaveGrownFrom before (head ∷ later) = HasGrownFrom before head × HaveGrownFrom head later
 
--- each of these heads but the first grew from the one before it; the hashes of the first are not looked at
+-- each of these heads except the first grew from the one before it; the hashes of the first are not looked at
 abbrev pub HaveGrown : List ChainHead → Type 0
 HaveGrown [] = Unit {0}
 HaveGrown (first ∷ later) = HaveGrownFrom first later

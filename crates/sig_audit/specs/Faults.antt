@@ -32,7 +32,7 @@ IsHeadFault accepts first before head e =
     × ((cause : MerkleProofError) × IsUngrown (chain_head older) (chain_head head) cause
     × (e ≡ Consistency (length before) cause))))
 
--- of the heads, the first with a fault; the index that it keeps is the number of heads before it
+-- the first head with a fault; its index is the number of heads before it
 pub record IsHeadsFault (accepts : List ℕ → List ℕ → Bool) (heads : List AuditHead) (e : AuditError) : Type 0 where
   pub first : AuditHead
   pub before : List AuditHead
@@ -52,15 +52,15 @@ abbrev pub IsNotIncluded : ChainHead → Watch → MerkleProofError → Type 0
 IsNotIncluded head watch e =
     IsInclusionAnswer watch.index (leaf_of watch.entry) head.size watch.hashes head.hash (Err e)
 
--- a watch after so many others: its head is none of these; else its path does not lead from its entry to that head's
--- root
+-- a watch after this number of others: its head is none of these; else its path does not lead from its entry to that
+-- head's root
 abbrev pub IsWatchFault : List ChainHead → ℕ → Watch → AuditError → Type 0
 IsWatchFault heads place watch e =
     ((length heads ≤ watch.head) × (e ≡ Head place))
     ⊎ ((head : ChainHead) × (slice_get heads watch.head ≡ Some head)
     × ((cause : MerkleProofError) × IsNotIncluded head watch cause × (e ≡ Inclusion place cause)))
 
--- of the watches, the first with a fault; the index that it keeps is the number of watches before it
+-- the first watch with a fault; its index is the number of watches before it
 pub record IsWatchesFault (heads : List ChainHead) (watched : List Watch) (e : AuditError) : Type 0 where
   pub before : List Watch
   pub watch : Watch

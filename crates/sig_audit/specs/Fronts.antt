@@ -23,7 +23,7 @@ IsLast elements last = slice_get elements (length elements - 1) ≡ Some last
 abbrev pub EndsInList : List (List ℕ) → List ChainHead → Type 0
 EndsInList entries heads = (last : ChainHead) × IsLast heads last × IsOfList entries last
 
--- for private clauses: the roots of the list's first entries, as many as each head's size
+-- for private clauses: for each head, the root of the list's first entries, whose number is its size
 abbrev pub fronts_of : List (List ℕ) → List ChainHead → List (List ℕ)
 fronts_of entries heads = map (λ (head : ChainHead). root (take head.size entries)) heads
 

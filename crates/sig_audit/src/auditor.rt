@@ -18,9 +18,9 @@ use std::alloc::Global;
 /// Checks that the heads are of one log over time, and that it has the watched entries; returns the size of the last
 /// head.
 ///
-/// Each head has to be signed by the log, of the first head's origin, and its hashes have to show that its tree has that
-/// of the head before it as its first leaves; the hashes of the first head are not looked at. The hashes of each watch
-/// have to lead from its entry to the root of its head.
+/// Each head has to be signed by the log, of the first head's origin, and its hashes have to show that its tree has
+/// that of the head before it as its first leaves; the hashes of the first head are not looked at. The hashes of each
+/// watch have to lead from its entry to the root of its head.
 ///
 /// Errors, the first that applies, of the heads in order and then of the watches in order; each keeps an index:
 /// - `Empty`: there is no head;
@@ -28,7 +28,7 @@ use std::alloc::Global;
 /// - `Origin`: the head's origin is not that of the first head;
 /// - `Consistency`: the head's hashes are not a consistency proof from the head before it, with the error of
 ///   [`sig_merkle::verify_consistency`];
-/// - `Head`: the head of the watch is the index of no head;
+/// - `Head`: the watch's head is not the index of a head;
 /// - `Inclusion`: the hashes of the watch are not an audit path of its entry under its head, with the error of
 ///   [`sig_merkle::verify_inclusion`];
 /// - `OutOfMemory`.

@@ -2,8 +2,8 @@
 use sig_base::{MerkleProofError, OutOfMemory};
 use thiserror::Error;
 
-/// Why an audit fails: the first fault, of the heads in order and then of the watches in order. A number is the index of
-/// the head or of the watch.
+/// Why an audit fails: the first fault, of the heads in order and then of the watches in order. A number is the index
+/// of the head or of the watch.
 #[derive(Clone, Copy, Debug, PartialEq, Eq, Error)]
 pub enum AuditError {
     /// There is no head.
@@ -18,7 +18,7 @@ pub enum AuditError {
     /// The head's hashes do not show that its tree has that of the head before it as its first leaves.
     #[error("Consistency")]
     Consistency(usize, MerkleProofError),
-    /// The head of the watch is the index of no head.
+    /// The watch's head is not the index of a head.
     #[error("Head")]
     Head(usize),
     /// The hashes of the watch do not lead from its entry to the root of its head.

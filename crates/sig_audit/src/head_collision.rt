@@ -1,4 +1,4 @@
-//! Two byte strings of equal SHA-256, from a chain of heads of which one is not that of the list's first entries.
+//! Two byte strings of equal SHA-256, from a chain of heads, if one is not that of the list's first entries.
 ghost use Rattle.std.specs.Prelude.{◌≡◌, ◌↔◌, length, take, IsNone, IfOk, IfSome};
 ghost use Rattle.std.specs.List.{AllByRecursion};
 ghost use Rattle.sig_audit.specs.Chained.{AreChained, HasGrownFrom};
@@ -14,11 +14,11 @@ use sig_merkle::uncounted::roots_of_fronts;
 use std::alloc::Global;
 
 /// Returns two different byte strings of equal SHA-256 that the heads and their proofs exhibit, if the hash of one of
-/// them is not the root of the list's first entries, as many as its size; `None` if and only if each is. The last head
-/// has the size and the root of the list. Fails only if out of memory.
+/// them is not the root of the list's first entries, whose number is its size; `None` if and only if each is. The last
+/// head has the size and the root of the list. Fails only if out of memory.
 ///
-/// From the last head backward, the first whose hash is another is refuted by the proof of the head after it (RFC 6962
-/// section 2.1.2).
+/// Going back from the last head, the first whose hash is another is refuted by the proof of the head after it (RFC
+/// 6962 section 2.1.2).
 #[tactic(auto, using(crate::proofs::Chains::sizes_within))]
 pub fn chain_collision(
     alloc: Global,
@@ -40,8 +40,8 @@ pub fn chain_collision(
     )
 }
 
-/// Returns the roots of the list's first entries, as many as each head's size: the tree of the list is hashed once.
-/// Fails only if out of memory.
+/// Returns, for each head, the root of the list's first entries, whose number is its size: the tree of the list is
+/// hashed once. Fails only if out of memory.
 #[tactic(auto, using(crate::proofs::Chains::sizes_ascend))]
 pub(crate) fn roots_beside(
     alloc: Global,

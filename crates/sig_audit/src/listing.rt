@@ -22,8 +22,8 @@ pub enum Listing {
     /// Each head has the size and the root of the list's first entries, and each watched entry is the list's at its
     /// index.
     Listed,
-    /// The list has the size and the root of the last head, not all of the others are the list's, and two different byte
-    /// strings have the same SHA-256.
+    /// The list has the size and the root of the last head, not all of the others are the list's, and two different
+    /// byte strings have the same SHA-256.
     Collided(Collision),
 }
 
@@ -44,7 +44,7 @@ pub fn compare_list(
     listing
 }
 
-/// The same of these heads.
+/// The same for these heads.
 #[tactic(auto, using(crate::proofs::Ends::finds_size))]
 fn compare_heads(
     alloc: Global,

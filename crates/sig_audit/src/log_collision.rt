@@ -15,7 +15,7 @@ use sig_merkle::inclusion_collision_in;
 use std::alloc::Global;
 
 /// Returns two different byte strings of equal SHA-256 that the proofs of the heads or of the watches exhibit, if the
-/// hash of a head is not the root of the list's first entries, as many as its size, or a watched entry is not the
+/// hash of a head is not the root of the list's first entries, whose number is its size, or a watched entry is not the
 /// list's at its index; `None` if and only if all are. The last head has the size and the root of the list. Fails only
 /// if out of memory.
 #[tactic(auto, using(crate::proofs::Chains::sizes_within))]
@@ -43,8 +43,8 @@ pub fn audit_collision(
     )
 }
 
-/// Returns what the heads say of their trees, with copies of their proofs, as [`chain_collision`] takes it. Fails only if
-/// out of memory.
+/// Returns what the heads say of their trees, with copies of their proofs, as [`chain_collision`] takes it. Fails only
+/// if out of memory.
 ///
 /// [`chain_collision`]: crate::chain_collision
 #[tactic(auto, using(std::proofs::lemmas::List::map_more))]
@@ -63,7 +63,7 @@ pub fn chain_of(alloc: Global, heads: &[AuditHead]) -> Result<Chain, OutOfMemory
     Ok(chain)
 }
 
-/// The same of these heads, beside the roots of the list's first entries.
+/// The same for these heads, beside the roots of the list's first entries.
 #[tactic(auto, using(crate::proofs::Listings::finds_log))]
 pub(crate) fn log_collision(
     alloc: Global,
@@ -86,7 +86,7 @@ pub(crate) fn log_collision(
     }
 }
 
-/// The same of the watches alone, under heads of the list's first entries.
+/// The same for only the watches, under heads of the list's first entries.
 fn watched_collision(
     alloc: Global,
     heads: &[ChainHead],
@@ -107,7 +107,7 @@ fn watched_collision(
     Ok(None)
 }
 
-/// The same of one watch.
+/// The same for one watch.
 fn watch_collision(
     alloc: Global,
     heads: &[ChainHead],

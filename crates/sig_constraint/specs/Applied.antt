@@ -9,7 +9,7 @@ use Rattle.sig_constraint.specs.declared.apply.SigstoreApplicationConstraintsErr
 abbrev pub after : Layer → Option Layer → Layer
 after l given = unwrap_or given l
 
--- the layer after each of them in turn
+-- the layer after each of the constraints in turn
 abbrev pub applied : {C : Type 0} → (C → Layer → Option Layer) → Layer → List C → Layer
 applied gives l [] = l
 applied gives l (c ∷ cs) = applied gives (after l (gives c l)) cs

@@ -21,9 +21,9 @@ use Rattle.sig_cosign.specs.Layer.{Layer, time_of}
 use Rattle.sig_cosign.specs.Signed.{is_signed_by}
 use Rattle.sig_cosign.specs.declared.bundle_content.BundleContent.{BundleContent}
 
--- ---- what is asked of a layer
+-- ---- what is required of a layer
 
--- a log took the layer while the certificate was valid; or no log says anything of it, and none has to
+-- a log took the layer while the certificate was valid; or no log says anything of it, and that is not required
 abbrev pub is_timely : Cert → Bool → Option BundleContent → Bool
 is_timely c required None = not required
 is_timely c required (Some bundle) = is_none (expiration_refusal c (time_of bundle))
@@ -31,7 +31,7 @@ is_timely c required (Some bundle) = is_none (expiration_refusal c (time_of bund
 abbrev pub is_certified : AcceptsSpki → CosignVerificationKey → Cert → Bool → Layer → Bool
 is_certified spki key c required l = is_signed_by spki key l && is_timely c required l.bundle
 
--- ---- what is asked of the certificate
+-- ---- what is required of the certificate
 
 -- the first cause against it by itself: key usages, one subject alternative name, validity by now
 abbrev pub signer_refusal : Cert → ℤ → Option SigstoreError
@@ -44,8 +44,8 @@ pool_of anchors = record { anchors = anchors; intermediates = [] }
 abbrev pub issued_answer : Accepts → List Cert → Cert → ℤ → Result (Unit {0}) SigstoreError
 issued_answer accepts anchors c now = from_pool (path_issuer accepts (pool_of anchors) c now)
 
--- what a chain says of it: nothing, if none is given; or what the pool of its certificates does; or that one of these is
--- no trust anchor
+-- the error of a chain for it: none without a chain; or that of the pool of its certificates; or that one of these is
+-- not a trust anchor
 abbrev pub IsChainAnswer : Accepts → Option (List (List ℕ)) → Cert → ℤ → Result (Unit {0}) SigstoreError → Type 0
 IsChainAnswer accepts None c now meant = meant ≡ Ok tt
 IsChainAnswer accepts (Some ders) c now meant =
@@ -64,7 +64,7 @@ pub record IsChainResult (accepts : Accepts) (chain : Option (List (List ℕ))) 
 abbrev pub Key : Type 0
 Key = VerifyScheme × List ℕ
 
--- its key, or why there is none
+-- its key, or why it is not supported
 abbrev pub spki_answer : Cert → Result Key SigstoreError
 spki_answer c = kind_answer c.spki (key_kind c.spki)
 
@@ -89,7 +89,7 @@ pub record IsKeyResult (accepts : Accepts) (chain : Option (List (List ℕ))) (c
 
 -- ---- of bytes
 
--- what a call returns is the certificate that the bytes are, or that they are none, unless memory ran out
+-- a call returns the certificate that the bytes are, or that they are not one, unless memory ran out
 pub record IsReadResult (der : List ℕ) (result : Result Cert SigstoreError) : Type 0 where
   pub found : IfOk result (λ c. IsCertificate der c)
   pub err : IfErr result (λ e. OrMemory OutOfMemory e ((e ≡ X509Error) × ((c : Cert) → ¬ IsCertificate der c)))
@@ -100,7 +100,7 @@ pub record IsReadResult (der : List ℕ) (result : Result Cert SigstoreError) : 
 abbrev pub IsUnreadable : List ℕ → Result Key SigstoreError → Type 0
 IsUnreadable der meant = (meant ≡ Err X509Error) × ((c : Cert) → ¬ IsCertificate der c)
 
--- what is meant of the bytes: that of the certificate that they are, or that they are none
+-- the result for the bytes: that of the certificate that they are, or that they are not one
 abbrev pub IsCertifiedKey : Accepts → List ℕ → Option (List (List ℕ)) → ℤ → Result Key SigstoreError → Type 0
 IsCertifiedKey accepts der chain now meant =
     ((c : Cert) × (IsCertificate der c × IsKeyAnswer accepts chain c now meant)) ⊎ IsUnreadable der meant

@@ -1,4 +1,4 @@
--- *Marked layer*: a layer whose payload has further annotations, none of them in place of another value.
+-- *Marked layer*: a layer whose payload has further annotations, which do not replace another value.
 use Rattle.std.specs.Prelude.{◌≡◌, ℕ, List, [], ◌∷◌, All, Any, Bool, true, false, Option, Some, None, if◌then◌else◌}
 use Rattle.std.specs.List.{list_all}
 use Rattle.std.specs.Str.{bytes_eq}
@@ -15,7 +15,7 @@ abbrev pub object_or_empty : Option Members → Data
 object_or_empty None = object no_members
 object_or_empty (Some ms) = object ms
 
--- an object: without members where there are none, and where they are not an object
+-- an object, without members if they are absent or not an object
 abbrev pub annotations_of : Option Beside → Data
 annotations_of None = object no_members
 annotations_of (Some beside) = object_or_empty (as_object beside.extra)
@@ -51,7 +51,7 @@ abbrev pub with_texts : Asked → Data → Data
 with_texts [] d = d
 with_texts (a ∷ rest) d = with_texts rest (with_member a.0 (string a.1) d)
 
--- what a signer says, with these annotations in place of the ones that are there
+-- what a signer says, with these annotations in place of the present ones
 abbrev pub with_extra : Data → Option Beside → Beside
 with_extra extra None = record { creator = None; timestamp = None; extra = extra }
 with_extra extra (Some beside) =

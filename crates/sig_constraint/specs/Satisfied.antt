@@ -41,7 +41,7 @@ abbrev pub AreUnsatisfied : {C : Type 0} → (C → Layer → Bool) → List Sig
 AreUnsatisfied holds layers cs ns =
     IsStrictlyIncreasing ns × ((n : ℕ) → Contains ns n ↔ IsUnsatisfiedAt holds layers cs n)
 
--- of the indices that an error names
+-- this holds of the indices that an error names
 abbrev pub IfUnsatisfied : (List ℕ → Type 0) → SigstoreVerifyConstraintsError → Type 0
 IfUnsatisfied P (Unsatisfied ns) = P ns
 IfUnsatisfied P OutOfMemory = Unit {0}

@@ -1,4 +1,4 @@
--- *Asked subject*: whom the certificate of a layer has to name, and by whose word.
+-- *Asked subject*: the subject and the issuer that the certificate of a layer has to name.
 use Rattle.std.specs.Prelude.{◌≡◌, ◌⊎◌, ℕ, List, Bool, true, false, ◌&&◌, Option, Some, None}
 use Rattle.std.specs.Str.{bytes_eq}
 use Rattle.sig_signer.specs.Signer.{Signer}
@@ -13,7 +13,7 @@ abbrev pub names_email : StringVerifier → CertificateSubject → Bool
 names_email email (Email text) = accepts email text
 names_email email (Uri text) = false
 
--- none is asked for, or there is one that is accepted
+-- no issuer is asked for, or there is one that is accepted
 abbrev pub accepts_issuer : Option StringVerifier → Option (List ℕ) → Bool
 accepts_issuer None issuer = true
 accepts_issuer (Some asked) None = false
@@ -29,7 +29,7 @@ abbrev pub names_url : List ℕ → CertificateSubject → Bool
 names_url url (Email text) = false
 names_url url (Uri text) = bytes_eq text url
 
--- it is there, and is this one
+-- the text is there, and is this one
 abbrev pub is_text : List ℕ → Option (List ℕ) → Bool
 is_text asked None = false
 is_text asked (Some text) = bytes_eq text asked

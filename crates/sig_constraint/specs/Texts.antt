@@ -1,4 +1,5 @@
--- *Accepted texts*: one, or those in which a pattern has a match. What a pattern matches is what `regex` says of it.
+-- *Accepted texts*: one text, or those in which a pattern has a match. What a pattern matches is what `regex` says of
+-- it.
 use Rattle.std.specs.Prelude.{ℕ, List, Bool, is_some}
 use Rattle.std.specs.Str.{bytes_eq}
 use Rattle.regex.specs.Patterns.{find_str}

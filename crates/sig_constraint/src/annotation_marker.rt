@@ -37,7 +37,7 @@ impl Constraint for AnnotationMarker {
 
     /// Returns `false` if the payload has one of the names with another value than its text; a number is another value.
     /// Else each name has its text afterwards, and everything else stays: other annotations, creator and timestamp, and
-    /// the other parts of the layer. A payload without `optional` gets one of these annotations alone, and annotations
+    /// the other parts of the layer. A payload without `optional` gets one with only these annotations, and annotations
     /// that are not an object are replaced. Fails only if out of memory; the layer is then unchanged, since the
     /// annotations are made before it is touched.
     fn add_constraint(&self, alloc: Global, signature_layer: &mut SignatureLayer) -> Result<bool>

@@ -11,8 +11,8 @@ use sig_base::{Result, TextMap};
 use sig_cosign::SignatureLayer;
 use std::alloc::Global;
 
-/// Asks that a layer's payload has these annotations. It checks no signature: who wrote the payload is asked by
-/// [`PublicKeyVerifier`](crate::PublicKeyVerifier) of the same layer.
+/// Requires that a layer's payload has these annotations. It does not check a signature: who wrote the payload is
+/// checked by [`PublicKeyVerifier`](crate::PublicKeyVerifier) of the same layer.
 #[derive(Drop)]
 pub struct AnnotationVerifier {
     /// The annotations: names with their values, a number or a truth value as it is written.
@@ -22,8 +22,8 @@ pub struct AnnotationVerifier {
 impl VerificationConstraint for AnnotationVerifier {
     ghost holds = { λ v l. satisfies l.simple_signing v.annotations };
 
-    /// Whether the payload has each of the annotations, as the payload's `satisfies_annotations` says: the name is there,
-    /// with the same text, or with a number or a truth value that is written so. Never fails.
+    /// Whether the payload has each of the annotations, as the payload's `satisfies_annotations` says: the name is
+    /// there, with the same text, or with a number or a truth value of that spelling. Never fails.
     fn verify(&self, alloc: Global, signature_layer: &SignatureLayer) -> Result<bool>
         ensures verdict { IsVerdict (satisfies (seen_layer signature_layer.now).simple_signing self.now.annotations)
             result }

@@ -35,10 +35,10 @@ pub struct CertificateVerifier<C> {
 
 impl<C: SignatureChecker + Drop> CertificateVerifier<C> {
     /// Returns the constraint that a layer is signed by the key of the certificate that the bytes (DER) are.
-    /// `require_rekor_bundle` says whether a layer of which no log says anything is rejected; it should be `true`, since
-    /// without a log nothing says when the layer was signed. `cert_chain` are the trust anchors (DER) that may have issued
-    /// the certificate; without it the certificate is trusted by itself, and the end of its validity is not looked at.
-    /// `now` is in seconds since 1970.
+    /// `require_rekor_bundle` says whether a layer that no log has is rejected; it should be `true`, since
+    /// without a log nothing says when the layer was signed. `cert_chain` are the trust anchors (DER) that may have
+    /// issued the certificate; without it the certificate is trusted by itself, and the end of its validity is not
+    /// looked at. `now` is in seconds since 1970.
     ///
     /// Errors, the first that applies:
     ///
@@ -56,7 +56,7 @@ impl<C: SignatureChecker + Drop> CertificateVerifier<C> {
         now: i64,
         checker: C,
     ) -> Result<CertificateVerifier<C>>
-        // The certificate is the one that the bytes are, and nothing is said against it.
+        // The certificate is the one that the bytes are, and it passes every check.
         ensures made { IfOk result (λ v. IsCertificateVerifier (C.spki_accepts checker) (C.cert_accepts checker)
             cert_bytes.now (option_copied cert_chain.entry) now require_rekor_bundle
             (⟦<CertificateVerifier<C> as VerificationConstraint>⟧.holds v)) }
@@ -83,9 +83,9 @@ impl<C: SignatureChecker + Drop> CertificateVerifier<C> {
 impl<C: SignatureChecker + Drop> VerificationConstraint for CertificateVerifier<C> {
     ghost holds = { λ v l. is_certified (C.spki_accepts v.checker) v.key v.certificate v.require_rekor_bundle l };
 
-    /// Whether the layer is signed by the certificate's key, as [`SignatureLayer::is_signed_by_key`] says, and the time of
-    /// its bundle is within the certificate's validity; without a bundle, whether none is required. Fails only if out of
-    /// memory.
+    /// Whether the layer is signed by the certificate's key, as [`SignatureLayer::is_signed_by_key`] says, and the time
+    /// of its bundle is within the certificate's validity; without a bundle, whether none is required. Fails only if
+    /// out of memory.
     fn verify(&self, alloc: Global, signature_layer: &SignatureLayer) -> Result<bool>
         ensures verdict { IsVerdict (is_certified (C.spki_accepts self.now.checker) self.now.key self.now.certificate
             self.now.require_rekor_bundle (seen_layer signature_layer.now)) result }
@@ -130,7 +130,7 @@ fn read_certificate(alloc: Global, der: &[u8]) -> Result<Certificate>
     }
 }
 
-/// The key of a certificate against which nothing is said.
+/// Returns the key of a certificate that passes every check.
 fn certified_key<C: SignatureChecker>(
     alloc: Global,
     certificate: &Certificate,
@@ -145,7 +145,7 @@ fn certified_key<C: SignatureChecker>(
     CosignVerificationKey::try_from_spki(alloc, certificate.spki())
 }
 
-/// What is said against the certificate by itself.
+/// Returns the error of the certificate by itself, if it has one.
 fn check_signer(certificate: &Certificate, now: i64) -> Result<()>
     ensures { error_of result ≡ signer_refusal certificate.now now }
 {
@@ -154,7 +154,7 @@ fn check_signer(certificate: &Certificate, now: i64) -> Result<()>
     verify_validity(certificate, now)
 }
 
-/// Whether a log took the layer within the certificate's validity; or whether none has to have.
+/// Whether a log took the layer within the certificate's validity; or that this is not required.
 fn is_timely(certificate: &Certificate, required: bool, bundle: &Option<BundleContent>) -> bool
     ensures { result ≡ is_timely certificate.now required bundle.now }
 {

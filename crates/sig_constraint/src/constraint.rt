@@ -28,7 +28,7 @@ pub trait VerificationConstraint: Drop {
 /// What is added to a layer before it is signed. A caller may implement it: what
 /// [`apply_constraints`](crate::apply_constraints) promises holds of every implementation.
 pub trait Constraint: Drop {
-    // The layer that the constraint gives of one, if it applies to it.
+    // The layer that the constraint makes of one, if it applies to it.
     ghost gives: { Self → Layer → Option Layer };
 
     /// Returns `true` if and only if the constraint applies, and leaves the layer that it then gives. After `false` and

@@ -13,13 +13,13 @@ use sig_base::{OutOfMemory, Result, Text};
 use sig_cosign::{CertificateSignature, CertificateSubject, SignatureLayer};
 use std::alloc::Global;
 
-/// Asks that a layer has a certificate of an email. It checks no signature: that the certificate's key signed the layer
-/// is asked by [`CertificateVerifier`](crate::CertificateVerifier) of the same layer.
+/// Requires that a layer has a certificate of an email. It does not check a signature: that the certificate's key
+/// signed the layer is checked by [`CertificateVerifier`](crate::CertificateVerifier) for the same layer.
 #[derive(Drop)]
 pub struct CertSubjectEmailVerifier {
     /// Which emails are accepted.
     pub email: StringVerifier,
-    /// Which issuers of the email's word are accepted; `None` if any is, also none.
+    /// Which issuers are accepted; `None` if any issuer is, also an absent one.
     pub issuer: Option<StringVerifier>,
 }
 

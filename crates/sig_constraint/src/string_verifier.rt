@@ -8,10 +8,10 @@ use sig_base::{OutOfMemory, Text};
 use std::alloc::Global;
 use std::fmt;
 
-/// Which texts are accepted: one, or those in which a pattern has a match.
+/// Which texts are accepted: one text, or those in which a pattern has a match.
 #[derive(Drop)]
 pub enum StringVerifier {
-    /// This text alone.
+    /// Only this text.
     ExactMatch(Text),
     /// The texts in which the pattern has a match, anywhere: `^` and `$` tie it to the ends. What the pattern means is
     /// what `regex` makes of it.

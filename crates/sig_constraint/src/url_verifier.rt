@@ -12,8 +12,9 @@ use sig_base::{Result, Text};
 use sig_cosign::{CertificateSubject, SignatureLayer};
 use std::alloc::Global;
 
-/// Asks that a layer has a certificate of a URI, such as that of a workflow. It checks no signature: that the
-/// certificate's key signed the layer is asked by [`CertificateVerifier`](crate::CertificateVerifier) of the same layer.
+/// Requires that a layer has a certificate of a URI, such as that of a workflow. It does not check a signature: that
+/// the certificate's key signed the layer is checked by [`CertificateVerifier`](crate::CertificateVerifier) for the
+/// same layer.
 #[derive(Drop)]
 pub struct CertSubjectUrlVerifier {
     /// The URI that the certificate has to name, byte for byte.

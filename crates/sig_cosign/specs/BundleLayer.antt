@@ -31,7 +31,7 @@ bundle_layer place a signer = record {
   raw_data = a.signed;
 }
 
--- with who signed by the word of the certificate at the time of the entry
+-- with the signer that the certificate names at the time of the entry
 abbrev pub IsBundleLayerWith : Accepts → Option Pool → ℤ → Place → Attestation → Layer → Type 0
 IsBundleLayerWith accepts pool now place a meant =
     (signer : Option Signer) × IsSignerIn accepts pool a.certificate a.entry.integrated_time now signer
@@ -43,7 +43,7 @@ IsBundleLayerFrom trust place (Ok a) (Ok meant) =
     IsBundleLayerWith trust.cert trust.pool trust.now place a meant
 IsBundleLayerFrom trust place (Ok a) (Err e) = ⊥
 
--- what is meant of a bundle, the digest of an image's manifest, and what a caller says of the layer
+-- the result for a bundle, the digest of an image's manifest, and what a caller says of the layer
 abbrev pub IsBundleLayerOf : Trust → Place → List ℕ → List ℕ → Result Layer SigstoreError → Type 0
 IsBundleLayerOf trust place source bundle =
     IsBundleLayerFrom trust place (attestation_answer trust.spki trust.keys source bundle)

@@ -113,7 +113,7 @@ IsLayerFrom trust descriptor layer (Ok parts) (Ok meant) =
     IsLayerWith trust.cert trust.pool trust.now descriptor layer parts meant
 IsLayerFrom trust descriptor layer (Ok parts) (Err e) = ⊥
 
--- what is meant of a descriptor, its bytes and the digest of an image's manifest
+-- the result for a descriptor, its bytes and the digest of an image's manifest
 abbrev pub IsLayerOf : Trust → OciDescriptor → ImageLayer → List ℕ → Result Layer SigstoreError → Type 0
 IsLayerOf trust descriptor layer source =
     IsLayerFrom trust descriptor layer (parts_answer trust.spki trust.keys descriptor layer source)

@@ -5,7 +5,7 @@ use Rattle.sig_x509.specs.Issuance.{Accepts}
 use Rattle.sig_x509.specs.Pool.{Pool}
 
 -- the signatures over messages and over certificates that are genuine, the keys of logs by their ids, the trust anchors
--- of certificates, and the time, in seconds since 1970
+-- the pool of certificates, and the time in seconds since 1970
 pub record Trust : Type 0 where
   pub spki : AcceptsSpki
   pub cert : Accepts

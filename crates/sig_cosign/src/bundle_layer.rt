@@ -21,11 +21,11 @@ use std::alloc::Global;
 
 impl SignatureLayer {
     /// Returns the layer of a Sigstore bundle that `cosign` made of the image whose manifest has the digest
-    /// `source_image_digest`, with or without `sha256:` at its front, at `now` in seconds since 1970. Its raw data is the
-    /// pre-authentication encoding of the bundle's envelope, its signature the envelope's. Who signed is in it if and only
-    /// if a pool is handed in, and
-    /// [`CertificateSignature::from_der_certificate`](crate::CertificateSignature::from_der_certificate) returns it at the
-    /// time of the entry. **No signature over the layer is checked here**, only what the log says of it.
+    /// `source_image_digest`, with or without `sha256:` at its front, at `now` in seconds since 1970. Its raw data is
+    /// the pre-authentication encoding of the bundle's envelope, its signature the envelope's. Who signed is in it if
+    /// and only if a pool is given, and
+    /// [`CertificateSignature::from_der_certificate`](crate::CertificateSignature::from_der_certificate) returns it at
+    /// the time of the entry. **No signature over the layer is checked here**, only what the log says of it.
     ///
     /// Errors: those of [`read_attestation`](sig_attestation::read_attestation), the first that applies.
     pub fn from_sigstore_bundle<C: SignatureChecker>(
@@ -48,7 +48,7 @@ impl SignatureLayer {
             (trust_in (C.spki_accepts checker.now) (C.cert_accepts checker.now) (option_map (λ k. k.now) rekor_pub_keys.entry)
             (option_map (λ p. p.now) fulcio_cert_pool.entry) now)
             (place_of layer_digest.now source_image_ref.now) source_image_digest.now bundle.now (Err e))) }
-        // What is meant comes, unless memory ran out.
+        // The result is this one, unless memory ran out.
         ensures only { (meant : result_type layer_type refusal_type) → IsBundleLayerOf
             (trust_in (C.spki_accepts checker.now) (C.cert_accepts checker.now) (option_map (λ k. k.now) rekor_pub_keys.entry)
             (option_map (λ p. p.now) fulcio_cert_pool.entry) now)

@@ -24,7 +24,7 @@ pub type Layers = OwnedList<SignatureLayer>;
 /// Returns the layers of a manifest's descriptors, in their order, of the image whose manifest has the digest
 /// `source_image_digest`, at `now` in seconds since 1970. To each descriptor belongs the first of the fetched layers
 /// whose bytes have its digest, `sha256:` and lower-case hexadecimal digits; what [`SignatureLayer::new`] makes of both
-/// is in the list, unless it fails. A descriptor without such a layer is left out, and so is one of which no layer is
+/// is in the list, unless it fails. A descriptor without such a layer is left out, and so is one from which no layer is
 /// made, whatever the error: who has to know it calls [`SignatureLayer::new`]. The layers are found by an index, and
 /// each descriptor costs what [`SignatureLayer::new`] costs: a layer that many descriptors name is read, and copied,
 /// for each of them.
@@ -51,7 +51,7 @@ pub fn build_signature_layers<C: SignatureChecker>(
         (trust_in (C.spki_accepts checker.now) (C.cert_accepts checker.now) (option_map (λ k. k.now) rekor_pub_keys.entry)
         (option_map (λ p. p.now) fulcio_cert_pool.entry) now)
         source_image_digest.now layers.now manifest_layers.now (Err e))) }
-    // What is meant comes, unless memory ran out.
+    // The result is this one, unless memory ran out.
     ensures only { (meant : result_type (list_type layer_type) refusal_type) → IsBuiltOf
         (trust_in (C.spki_accepts checker.now) (C.cert_accepts checker.now) (option_map (λ k. k.now) rekor_pub_keys.entry)
         (option_map (λ p. p.now) fulcio_cert_pool.entry) now)
@@ -123,7 +123,8 @@ fn first_layers<'a>(
     Ok(firsts)
 }
 
-/// The layer of a descriptor and its bytes; `None` if there are none, or that has an error. Fails only if out of memory.
+/// The layer of a descriptor and its bytes; `None` if there are no bytes, or that has an error. Fails only if out of
+/// memory.
 fn layer_in<C: SignatureChecker>(
     alloc: Global,
     descriptor: &OciDescriptor,

@@ -35,10 +35,11 @@ const BUNDLE_NAME: &str = "dev.sigstore.cosign/bundle";
 
 impl SignatureLayer {
     /// Returns the layer of a descriptor and its bytes, of the image whose manifest has the digest
-    /// `source_image_digest`, at `now` in seconds since 1970. What Rekor promised is in it if and only if it is noted and
-    /// keys of logs are handed in. Who signed is in it if and only if certificate, pool and what Rekor promised are there,
-    /// and [`CertificateSignature::from_der_certificate`](crate::CertificateSignature::from_der_certificate) returns it at
-    /// the time of the entry. **Nothing ties the three together**, and no signature over the layer is checked here.
+    /// `source_image_digest`, at `now` in seconds since 1970. What Rekor promised is in it if and only if it is noted
+    /// and keys of logs are given. The signer is in it if and only if certificate, pool and what Rekor promised are
+    /// there, and [`CertificateSignature::from_der_certificate`](crate::CertificateSignature::from_der_certificate)
+    /// returns it at the time of the entry. **Nothing ties the three together**, and no signature over the layer is
+    /// checked here.
     ///
     /// Errors, the first that applies:
     /// - `SigstoreMediaTypeNotFoundError`: one of the two media types is not
@@ -48,8 +49,9 @@ impl SignatureLayer {
     /// - `UnexpectedError` of `LayerUnreadable`: the bytes are not a payload, as [`sig_payload::read_signing`] says;
     /// - `UnexpectedError` of `ImageDigest`: the payload is of another image;
     /// - `SigstoreAnnotationNotFoundError`: there is no annotation `dev.cosignproject.cosign/signature`;
-    /// - those of [`Bundle::new_verified`](crate::Bundle::new_verified) for the annotation `dev.sigstore.cosign/bundle`, if
-    ///   keys are handed in;
+    /// - those of [`Bundle::new_verified`](crate::Bundle::new_verified) for the annotation
+    ///   `dev.sigstore.cosign/bundle`, if
+    ///   keys are given;
     /// - `OutOfMemory`.
     pub fn new<C: SignatureChecker>(
         alloc: Global,
@@ -70,7 +72,7 @@ impl SignatureLayer {
             (trust_in (C.spki_accepts checker.now) (C.cert_accepts checker.now) (option_map (λ k. k.now) rekor_pub_keys.entry)
             (option_map (λ p. p.now) fulcio_cert_pool.entry) now)
             descriptor.now layer.now source_image_digest.now (Err e))) }
-        // What is meant comes, unless memory ran out.
+        // The result is this one, unless memory ran out.
         ensures only { (meant : result_type layer_type refusal_type) → IsLayerOf
             (trust_in (C.spki_accepts checker.now) (C.cert_accepts checker.now) (option_map (λ k. k.now) rekor_pub_keys.entry)
             (option_map (λ p. p.now) fulcio_cert_pool.entry) now)

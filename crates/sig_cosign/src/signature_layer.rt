@@ -12,14 +12,14 @@ use sig_signer::CertificateSignature;
 use std::alloc::Global;
 
 /// A signature over an image, with all that is known of it. Nothing ties its certificate, what a log says and its
-/// signature together, and the signature itself is checked by [`SignatureLayer::is_signed_by_key`] alone.
+/// signature together, and the signature itself is checked only by [`SignatureLayer::is_signed_by_key`].
 #[derive(Drop)]
 pub struct SignatureLayer {
     /// What is signed of the image.
     pub simple_signing: SimpleSigning,
     /// The digest of the layer in its registry.
     pub oci_digest: Text,
-    /// Who signed, by the word of a certificate.
+    /// The signer that a certificate names.
     pub certificate_signature: Option<CertificateSignature>,
     /// What a log says of the signature.
     pub bundle: Option<BundleContent>,
@@ -30,8 +30,8 @@ pub struct SignatureLayer {
 }
 
 impl SignatureLayer {
-    /// Whether the layer has a signature, and the checker accepts it over the layer's raw data as this key's. False also
-    /// if the signature is not base64, as [`Signature::decode_bytes`] says. Fails only if out of memory.
+    /// Whether the layer has a signature, and the checker accepts it over the layer's raw data as this key's. False
+    /// also if the signature is not base64, as [`Signature::decode_bytes`] says. Fails only if out of memory.
     pub fn is_signed_by_key<C: SignatureChecker>(
         &self,
         alloc: Global,

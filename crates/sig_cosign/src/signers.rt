@@ -1,4 +1,4 @@
-//! Who signed a layer, by the word of its certificate.
+//! The signer of a layer, as its certificate names it.
 ghost use Rattle.std.specs.Prelude.{◌≡◌, Option as option_type, IfOk, option_map};
 ghost use Rattle.sig_cosign.specs.Signers.{IsNoneUnless, IsSignerAmong, IsSignerIf, IsSignerIn};
 ghost use Rattle.sig_signer.specs.Signer.{Signer as signer_type, seen_signer};
@@ -9,8 +9,8 @@ use sig_signer::CertificateSignature;
 use sig_x509::CertificatePool;
 use std::alloc::Global;
 
-/// Who signed a layer, by the word of its certificate at the time of its log entry; `None` if one of them or a pool is
-/// absent, or the certificate has an error. Fails only if out of memory.
+/// Returns the signer of a layer, as its certificate names it at the time of its log entry; `None` if one of them or a
+/// pool is absent, or the certificate has an error. Fails only if out of memory.
 pub(crate) fn signer_among<C: SignatureChecker>(
     alloc: Global,
     der: &Option<Bytes>,
@@ -41,7 +41,7 @@ pub(crate) fn signer_among<C: SignatureChecker>(
     )
 }
 
-/// Who signed, by the word of the certificate that the bytes are; `None` if that has an error, or there is no pool.
+/// Returns the signer that the certificate that the bytes are names; `None` if that has an error, or there is no pool.
 /// Fails only if out of memory.
 pub(crate) fn signer_in<C: SignatureChecker>(
     alloc: Global,
@@ -63,7 +63,7 @@ pub(crate) fn signer_in<C: SignatureChecker>(
     }
 }
 
-/// Who signed, by the word of the certificate that the bytes are; `None` if that has an error. Fails only if out of
+/// Returns the signer that the certificate that the bytes are names; `None` if that has an error. Fails only if out of
 /// memory.
 fn signer_if<C: SignatureChecker>(
     alloc: Global,

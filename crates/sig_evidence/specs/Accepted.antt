@@ -1,4 +1,4 @@
--- What the accepted signatures have of one that was asked about.
+-- What the accepted signatures share with one that was asked about.
 use Rattle.std.specs.Prelude.{ℕ, List, [], ◌∷◌, ◌++◌, Bool, codes, length, nat_le, take, Some, if◌then◌else◌}
 use Rattle.std.specs.List.{list_any}
 use Rattle.sig_base.specs.PartOrder.{has_part}
@@ -10,11 +10,11 @@ use Rattle.sig_json.specs.Writing.{TreeMember}
 use Rattle.sig_rekor.specs.declared.checkpoint.CheckpointSignature.{CheckpointSignature}
 use Rattle.sig_shown.specs.ShownValues.{count_row, sha256_tree, text_row, texts_row}
 
--- how many bytes a key has at most of which the SHA-256 is shown
+-- the greatest length of a key whose SHA-256 is shown
 abbrev pub most_key_bytes : ℕ
 most_key_bytes = 65536
 
--- the SHA-256 of a key, or of a long one its length
+-- the SHA-256 of a key, or the length of a long one
 abbrev pub key_row : List ℕ → TreeMember
 key_row key =
     if nat_le (length key) most_key_bytes then (codes "keySha256", Some (sha256_tree key))
@@ -28,7 +28,7 @@ abbrev pub found_names : Bool → Bool → Bool → List (List ℕ)
 found_names key message signature =
     named_if key (codes "key") ++ (named_if message (codes "message") ++ named_if signature (codes "signature"))
 
--- what was asked about, and which of it some row has
+-- what was asked about, and which parts of it some row has
 abbrev pub asked_about : List AcceptedRow → VerifyScheme → List ℕ → List ℕ → Bool → List TreeMember
 asked_about rows scheme key message signed =
     text_row (codes "scheme") (name_of scheme)

@@ -42,7 +42,7 @@ abbrev pub is_text : List ℕ → Option (List ℕ) → Bool
 is_text text None = false
 is_text text (Some other) = bytes_eq other text
 
--- the part, if it is another text than it has to be, or none
+-- the part, if it is not the text that it has to be, or `None`
 abbrev pub differing : List ℕ → List ℕ → Option (List ℕ) → Option BodyPart
 differing name expected got =
     if is_text expected got then None else Some (record { name = name; expected = expected; got = got })
@@ -98,7 +98,7 @@ abbrev pub hashes_difference : List ℕ → List ℕ → Option (List ℕ) → O
 hashes_difference envelope payload got_envelope got_payload spec =
     or_else (envelope_difference envelope got_envelope spec) (payload_difference payload got_payload spec)
 
--- the first signature, which alone counts
+-- the first signature, the only one that counts
 abbrev pub first_difference : List ℕ → List ℕ → Option Data → Option BodyPart
 first_difference signature certificate first =
     signature_difference signature certificate (text_of (codes "signature") first) (text_of (codes "verifier") first)
@@ -147,7 +147,7 @@ content_difference MessageSignature digest signature certificate d =
 content_difference (Dsse pae digests envelope payload) digest signature certificate d =
     dsse_difference (encode_lower (sha256 envelope)) (encode_lower (sha256 payload)) signature certificate d
 
--- of a bundle and the digest of the artifact; signature and certificate (PEM, RFC 7468 section 5.1) are in base64
+-- for a bundle and the digest of the artifact; signature and certificate (PEM, RFC 7468 section 5.1) are in base64
 abbrev pub body_difference : Checked → ArtifactDigest → Data → Option BodyPart
 body_difference c digest d = content_difference c.content (digest_bytes digest) (base64_text c.signature)
     (base64_text (pem_of c.certificate.whole)) (Some d)
@@ -162,7 +162,7 @@ abbrev pub short : Option (List ℕ) → Option Data
 short None = None
 short (Some text) = if nat_le (length text) most_compared then Some (string text) else None
 
--- where none of these parts differs, another member is there
+-- if none of these parts differs, another member is there
 abbrev pub part_rows : Option BodyPart → List TreeMember
 part_rows None = text_row (codes "part") (codes "members") ∷ []
 part_rows (Some part) =

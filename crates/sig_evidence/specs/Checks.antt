@@ -16,7 +16,7 @@ validity_rows c = time_row (codes "notBefore") c.not_before ∷ time_row (codes 
 abbrev pub times_rows : Checked → List TreeMember
 times_rows b = time_row (codes "integratedTime") b.entry.integrated_time ∷ validity_rows b.certificate
 
--- how many digests of a statement are shown at most
+-- the greatest number of digests of a statement that are shown
 abbrev pub most_digests : ℕ
 most_digests = 256
 

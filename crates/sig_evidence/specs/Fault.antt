@@ -20,7 +20,7 @@ member_rows fault =
     shown_rows (codes "path") (codes "pathLength") (path_text fault.path)
     ++ (text_row (codes "why") (why_name fault.cause) ∷ [])
 
--- of a text that is not JSON, and of a float, a refusal has all that there is
+-- for a text that is not JSON, and for a float, a refusal has no more to show
 abbrev pub fault_rows : DocumentFault → List TreeMember
 fault_rows NotJson = []
 fault_rows Float = []

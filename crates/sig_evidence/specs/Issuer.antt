@@ -10,7 +10,7 @@ use Rattle.sig_shown.specs.ShownValues.{count_row, count_tree, shown_rows, some_
 abbrev pub place_if : ℕ → List ℕ → Cert → List ℕ
 place_if place name anchor = if bytes_eq anchor.subject name then place ∷ [] else []
 
--- the indices of those whose subject has this name, the first of which has this index
+-- the indices of those whose subject has this name, counted from this index on
 unfoldable pub places_from : ℕ → List ℕ → List Cert → List ℕ
 places_from place name [] = []
 places_from place name (anchor ∷ anchors) = place_if place name anchor ++ places_from (place + 1) name anchors

@@ -15,7 +15,7 @@ use Rattle.sig_shown.specs.ShownValues.{count_row, sha256_tree, shown_rows, text
 
 -- ---- a trusted root
 
--- of a range at a time
+-- the state of a range at a time
 abbrev pub state_name : ℤ → Option TimeRange → List ℕ
 state_name now range =
     if holds now range then codes "holds" else if has_begun now range then codes "ended" else codes "not begun"
@@ -53,12 +53,12 @@ logs_tree now logs = list_tree (log_tree now) (take most_logs logs)
 abbrev pub sct_parts : DigitallySigned → List ℕ × ℕ
 sct_parts signed = (signed.log_id, signed.timestamp)
 
--- the same of the SCT that a certificate has
+-- the same for the SCT that a certificate has
 abbrev pub named_sct : Result Sct CertificateErrorKind → Option (List ℕ × ℕ)
 named_sct (Err why) = None
 named_sct (Ok sct) = Some (sct.log_id, sct.timestamp)
 
--- and of the time the second in both forms
+-- and the second of the time in both forms
 abbrev pub sct_rows : Option (List ℕ × ℕ) → List TreeMember
 sct_rows None = []
 sct_rows (Some sct) =

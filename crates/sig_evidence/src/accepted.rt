@@ -1,4 +1,4 @@
-//! What the accepted signatures have of one that was asked about.
+//! What the accepted signatures share with one that was asked about.
 ghost use Rattle.std.specs.Prelude.{◌≡◌, ◌++◌, IfOk, OnOk};
 ghost use Rattle.sig_json.specs.Writing.{members, members_into, put_some};
 ghost use Rattle.sig_evidence.specs.Accepted.{asked_about, asked_note_rows, asked_rows, found_names, has_one_of, key_row};
@@ -13,14 +13,14 @@ use std::alloc::Global;
 /// How many signatures of a note are looked for among the accepted ones at most.
 pub const MOST_SIGNATURES: usize = 16;
 
-/// How many bytes a key has at most of which the SHA-256 is shown: a log has one key for all bundles that are explained.
+/// The greatest length in bytes of a key whose SHA-256 is shown: a log has one key for all bundles that are explained.
 pub const MOST_KEY_BYTES: usize = 65536;
 
-/// The object with what the accepted signatures have of one that was asked about and is not accepted: `scheme`, the name of
-/// the scheme under which it was asked about; `keySha256` and `messageSha256`, the SHA-256 of the key and of the message, and
-/// of a key of more than [`MOST_KEY_BYTES`] `keyLength`, the number of its bytes, in place of the hash; and `accepted`, a list
-/// of those of `key`, `message` and `signature` that some row has. So a row for another key, another message and another
-/// signature are told apart. Fails only if out of memory.
+/// The object with what the accepted signatures share with one that was asked about and is not accepted: `scheme`, the
+/// name of the scheme under which it was asked about; `keySha256` and `messageSha256`, the SHA-256 of the key and of
+/// the message, and for a key of more than [`MOST_KEY_BYTES`], `keyLength`, the number of its bytes, in place of the
+/// hash; and `accepted`, a list of those of `key`, `message` and `signature` that some row has. So a row for another
+/// key, another message and another signature can be distinguished. Fails only if out of memory.
 pub fn with_accepted(
     object: Object,
     alloc: Global,
@@ -37,9 +37,9 @@ pub fn with_accepted(
     with_asked(object, alloc, accepted, scheme, key, message, signed)
 }
 
-/// The object with what the accepted signatures have of those of a note of which none is accepted: the members of
-/// [`with_accepted`], where `signature` stands in `accepted` if some row has one of the first [`MOST_SIGNATURES`] signatures of
-/// the note. Fails only if out of memory.
+/// The object with what the accepted signatures share with those of a note, if none is accepted: the members of
+/// [`with_accepted`], where `signature` is in `accepted` if some row has one of the first [`MOST_SIGNATURES`]
+/// signatures of the note. Fails only if out of memory.
 pub fn with_accepted_note(
     object: Object,
     alloc: Global,
@@ -65,7 +65,7 @@ fn has_one_of(accepted: &TableChecker, signatures: &[CheckpointSignature]) -> bo
         .any(|it| accepted.has(RowPart::Signature, it.raw.as_slice()))
 }
 
-/// The object with what was asked about; it is said whether some row has the signature.
+/// The object with what was asked about, and whether some row has the signature.
 fn with_asked(
     object: Object,
     alloc: Global,

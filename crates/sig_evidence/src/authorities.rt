@@ -1,7 +1,8 @@
 //! The certificate authorities of a trusted root.
 //!
 //! ```text
-//! {"certificateAuthorities":[{"certificateCount":"2","start":{..},"state":"not begun"}],"certificateAuthorityCount":"1"}
+//! {"certificateAuthorities":[{"certificateCount":"2","start":{..},"state":"not
+//! begun"}],"certificateAuthorityCount":"1"}
 //! ```
 ghost use Rattle.std.specs.Prelude.{◌≡◌, [], IfOk, length, unwrap_or};
 ghost use Rattle.sig_json.specs.Writing.{list_tree, members, members_into};
@@ -19,9 +20,9 @@ use std::alloc::Global;
 pub const MOST_AUTHORITIES: usize = 256;
 
 /// The object with what the link `fulcio` looks at: `certificateAuthorities`, the first [`MOST_AUTHORITIES`] of the
-/// trusted root in order, each with `certificateCount`, how many certificates it has, and of its range `state`, which is
-/// `holds`, `ended` or `not begun` at this second since 1970, `start` and `end`; and `certificateAuthorityCount`, how
-/// many there are. Fails only if out of memory.
+/// trusted root in order, each with `certificateCount`, how many certificates it has, and of its range `state`, which
+/// is `holds`, `ended` or `not begun` at this second since 1970, `start` and `end`; and `certificateAuthorityCount`,
+/// how many there are. Fails only if out of memory.
 pub fn with_authorities(
     object: Object,
     alloc: Global,
@@ -70,7 +71,7 @@ fn authority_document(
     Ok(object.into_document())
 }
 
-/// The object with an authority, of which every member may be absent.
+/// The object with an authority, whose every member may be absent.
 fn with_sparse(
     object: Object,
     alloc: Global,

@@ -11,11 +11,11 @@ use sig_json::Object;
 use sig_shown::{ShownDigest, first, with_count, with_digest, with_list, with_time};
 use std::alloc::Global;
 
-/// How many digests of a statement are shown at most.
+/// The greatest number of digests of a statement that are shown.
 pub const MOST_DIGESTS: usize = 256;
 
-/// The object with the validity of a certificate: `notBefore` and `notAfter`, the first and the last second of it. Fails
-/// only if out of memory.
+/// The object with the validity of a certificate: `notBefore` and `notAfter`, the first and the last second of it.
+/// Fails only if out of memory.
 pub fn with_validity(
     object: Object,
     alloc: Global,
@@ -44,7 +44,7 @@ pub fn with_times(
     with_validity(object, alloc, bundle.certificate())
 }
 
-/// The object with what the link `subject` compares: `digest`, that of the artifact, and of a statement
+/// The object with what the link `subject` compares: `digest`, that of the artifact, and for a statement
 /// `subjectDigests`, the first [`MOST_DIGESTS`] SHA-256 and SHA-512 digests of its subjects in order, and
 /// `subjectDigestCount`, how many there are. Fails only if out of memory.
 pub fn with_subjects(

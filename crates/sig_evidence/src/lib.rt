@@ -1,5 +1,5 @@
-//! What the links of the chain of trust compare, as members of JSON: of a bundle, a trusted root and the accepted
-//! signatures. An explanation shows them beside what failed, or of what was verified.
+//! What the links of the chain of trust compare, as members of JSON: parts of a bundle, of a trusted root and of the
+//! accepted signatures. An explanation shows them beside what failed or what was verified.
 //!
 //! ```text
 //! {"integratedTime":{"seconds":"1700000000","utc":"2023-11-14T22:13:20Z"},
@@ -7,7 +7,7 @@
 //! ```
 //!
 //! The layer above uses one fact of each call: it returns the object with members that a definition gives of what it is
-//! handed, `times_rows` or `sct_rows` for instance, unless memory runs out. Lists are shown to a stated length, beside
+//! given, `times_rows` or `sct_rows` for instance, unless memory runs out. Lists are shown to a stated length, beside
 //! which a member says how long they are.
 #![tactic(auto)]
 

@@ -12,7 +12,7 @@ use sig_root::{PublicKey, SparseInstance, TimeRange};
 use sig_shown::{first, with_sha256, with_shown, with_time};
 use std::alloc::Global;
 
-/// How many logs of a trusted root are shown at most.
+/// The greatest number of logs of a trusted root that are shown.
 pub const MOST_LOGS: usize = 256;
 
 /// The object with the id of a log as a member, `logId`, in hexadecimal, if there is one. Fails only if out of memory.
@@ -27,9 +27,9 @@ pub fn with_log_id(object: Object, alloc: Global, id: &Option<Bytes>) -> Result<
     with_shown(object, alloc, "logId", "logIdLength", digits.as_str())
 }
 
-/// Logs of a trusted root: of the first [`MOST_LOGS`] in order `logId` in hexadecimal, `keySha256`, the SHA-256 of the key, and
-/// of the key's range `state`, which is `holds`, `ended` or `not begun` at this second since 1970, `start` and `end`; what a log
-/// has not is left out. Fails only if out of memory.
+/// Logs of a trusted root: for the first [`MOST_LOGS`] in order `logId` in hexadecimal, `keySha256`, the SHA-256 of the
+/// key, and of the key's range `state`, which is `holds`, `ended` or `not begun` at this second since 1970, `start` and
+/// `end`; what a log does not have is left out. Fails only if out of memory.
 #[tactic(auto, unfolding(crate::specs::Logs::logs_tree))]
 pub fn logs_document(
     alloc: Global,

@@ -12,8 +12,8 @@ use sig_timestamp::{CertificateEmbeddedSCT, DigitallySigned, SCTError};
 use std::alloc::Global;
 
 /// The object with what the one SCT of a certificate names: `logId`, the id of the log in hexadecimal; `timestamp`, in
-/// milliseconds since 1970; and `time`, the second of it in both forms. Without more if the certificate has not one SCT.
-/// Fails only if out of memory.
+/// milliseconds since 1970; and `time`, the second of it in both forms. The object is empty if the certificate does not
+/// have exactly one SCT. Fails only if out of memory.
 pub fn with_sct(
     object: Object,
     alloc: Global,
@@ -34,7 +34,7 @@ pub fn with_sct(
     with_time(object, alloc, "time", &second)
 }
 
-/// The one SCT of a certificate; `None` if it has not one.
+/// Returns the one SCT of a certificate; `None` if it does not have exactly one.
 fn sct_of(alloc: Global, certificate: &Certificate) -> Result<Option<DigitallySigned>, OutOfMemory>
     ensures { IfOk result (λ found. option_map sct_parts found ≡ named_sct (sct_of certificate.now)) }
 {

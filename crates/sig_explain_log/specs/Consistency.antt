@@ -25,7 +25,7 @@ abbrev pub growth_answer : ConsistencyRequest → Result (Unit {0}) MerkleProofE
 growth_answer request =
     consistency_answer request.old_size request.tree_size request.hashes request.old_root request.root_hash
 
--- what is wrong with the note, beside the tree of now
+-- what is wrong with the note, beside the new tree
 abbrev pub new_rows : ConsistencyRequest → List TreeMember
 new_rows request = new_row request ∷ head_note_row request.head ∷ []
 
@@ -42,7 +42,7 @@ grown_rows request = old_row request ∷ new_rows request
 abbrev pub growth_rows : ConsistencyRequest → List TreeMember
 growth_rows request = consistency_rows (growth_answer request) ++ grown_rows request
 
--- of the link that fails; nothing of a link that `consistency` does not have
+-- what is shown of the link that fails; nothing for a link that `consistency` does not have
 abbrev pub consistency_link_rows : ConsistencyRequest → Link → List TreeMember
 consistency_link_rows request Checkpoint = head_unread_rows request.head
 consistency_link_rows request NoteKey = head_unsigned_rows request.head

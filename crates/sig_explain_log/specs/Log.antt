@@ -39,7 +39,7 @@ log_match_rows request =
 abbrev pub log_inclusion_rows : LogRequest → List TreeMember
 log_inclusion_rows request = inclusion_rows (path_answer request.proof.log_index request) ++ log_trees_rows request
 
--- of the link that fails; nothing of a link that `log` does not have
+-- what is shown of the link that fails; nothing for a link that `log` does not have
 abbrev pub log_link_rows : LogRequest → Link → List TreeMember
 log_link_rows request Checkpoint = head_unread_rows request.head
 log_link_rows request NoteKey = head_unsigned_rows request.head

@@ -22,20 +22,20 @@ abbrev pub checkpoint_fault_rows : CheckpointFault → List TreeMember
 checkpoint_fault_rows fault =
     texts_row (codes "cause") (codes "ParseCheckpointError" ∷ checkpoint_name fault ∷ []) ∷ []
 
--- of what a text was read as
+-- what is shown of what a text was read as
 abbrev pub unread_rows : Result SignedCheckpoint CheckpointFault → List TreeMember
 unread_rows (Ok _) = []
 unread_rows (Err fault) = checkpoint_fault_rows fault
 
 -- ---- a note that the log did not sign
 
--- the scheme, the key and the note that are asked about, and what the accepted signatures have of these
+-- the scheme, the key and the note that are asked about, and which of these the accepted signatures have
 abbrev pub note_key_rows : VerifyScheme → List ℕ → List AcceptedRow → SignedCheckpoint → List TreeMember
 note_key_rows scheme key rows checkpoint =
     texts_row (codes "cause") (codes "CheckpointSignatureVerificationError" ∷ [])
     ∷ asked_note_rows rows scheme key (note_text checkpoint.note) checkpoint.signatures
 
--- of what a text was read as; nothing of one that is not a checkpoint
+-- what is shown of what a text was read as; nothing if it is not a checkpoint
 abbrev pub unsigned_rows : VerifyScheme → List ℕ → List AcceptedRow → Result SignedCheckpoint CheckpointFault
     → List TreeMember
 unsigned_rows scheme key rows (Ok checkpoint) = note_key_rows scheme key rows checkpoint
@@ -51,7 +51,7 @@ abbrev pub inclusion_error_rows : MerkleProofError → List TreeMember
 inclusion_error_rows error =
     texts_row (codes "cause") (codes "InclusionProofError" ∷ merkle_name error ∷ []) ∷ merkle_rows error
 
--- the same of the answer of a check
+-- the same for the result of a check
 abbrev pub consistency_rows : Result (Unit {0}) MerkleProofError → List TreeMember
 consistency_rows (Ok _) = []
 consistency_rows (Err error) = consistency_error_rows error
@@ -62,12 +62,12 @@ inclusion_rows (Err error) = inclusion_error_rows error
 
 -- ---- a note of another tree
 
--- of the comparison of a note with a tree
+-- what is shown of the comparison of a note with a tree
 abbrev pub tree_rows : Result (Unit {0}) SigstoreError → List TreeMember
 tree_rows (Err (ConsistencyProofError error)) = consistency_error_rows error
 tree_rows other = []
 
--- of what a text was read as, and the size and the root of the tree; nothing of a text that is not a checkpoint
+-- what is shown of what a text was read as, and the size and the root of the tree; nothing if it is not a checkpoint
 abbrev pub mismatch_rows : ℕ → List ℕ → Result SignedCheckpoint CheckpointFault → List TreeMember
 mismatch_rows size root (Ok checkpoint) = tree_rows (tree_answer checkpoint root size)
 mismatch_rows size root (Err _) = []

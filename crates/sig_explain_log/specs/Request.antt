@@ -1,4 +1,4 @@
--- What is shown of a text that has to be a request and is none.
+-- What is shown of a text that has to be a request but is not one.
 use Rattle.std.specs.Prelude.{ℕ, List, [], ◌∷◌, codes}
 use Rattle.sig_json.specs.Writing.{TreeMember, object_of}
 use Rattle.sig_json.specs.Data.{Data}

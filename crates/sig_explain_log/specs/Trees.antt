@@ -16,7 +16,7 @@ head_tree size root =
 abbrev pub head_row : List ℕ → ℕ → List ℕ → TreeMember
 head_row name size root = (name, Some (head_tree size root))
 
--- the note of what a text was read as; none of a text that is not a checkpoint
+-- the note of what a text was read as; nothing if it is not a checkpoint
 abbrev pub note_in : Result SignedCheckpoint CheckpointFault → Option Data
 note_in (Ok checkpoint) = Some (note_tree checkpoint.note)
 note_in (Err _) = None

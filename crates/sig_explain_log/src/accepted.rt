@@ -64,7 +64,7 @@ fn with_note_key(
     )
 }
 
-/// The same of a request's tree head.
+/// The same for a request's tree head.
 pub(crate) fn with_unsigned_head(
     object: Object,
     alloc: Global,

@@ -1,5 +1,5 @@
-//! Why a request of `log` or `consistency` is refused, or what was verified of it, as JSON; and what the explanations of
-//! other commands over a log's checkpoints share with these.
+//! Why a request of `log` or `consistency` is refused, or what was verified for it, as JSON; and what the explanations
+//! of other commands over a log's checkpoints share with these.
 //!
 //! ```text
 //! {"cause":["Member"],"link":"request","path":"rootHash","why":"Absent"}
@@ -10,11 +10,11 @@
 //!
 //! What the layers above use:
 //!
-//! - [`log_explanation`] and [`consistency_explanation`] make the document of a request and of the link that fails, or of
-//!   none: its tree is a total function of both, `log_tree` or `consistency_tree`. That this link is the first that fails
-//!   is the caller's word; of a link that holds no cause is shown.
+//! - [`log_explanation`] and [`consistency_explanation`] make the document of a request and of the link that fails, if
+//!   one does: its tree is a total function of both, `log_tree` or `consistency_tree`. The caller says which link is
+//!   the first that fails; for a link that holds no cause is shown.
 //! - [`request_explanation`] makes that of a text that is not a request: `request_tree` of what is wrong with it.
-//! - Each other call returns the object with members that a definition gives of what it is handed.
+//! - Each other call returns the object with members that a definition gives for its arguments.
 #![tactic(auto)]
 
 mod accepted;

@@ -15,8 +15,9 @@ use sig_explanation::{merkle_name, with_inner_cause, with_merkle};
 use sig_json::Object;
 use std::alloc::Global;
 
-/// The object with why a tree has not the older one as its first leaves: `cause`, a list of `ConsistencyProofError` and
-/// the name of the error; and what the error keeps, as [`with_merkle`]. Fails only if out of memory.
+/// The object with why a tree does not have the older one as its first leaves: `cause`, a list of
+/// `ConsistencyProofError` and the name of the error; and what the error keeps, as [`with_merkle`]. Fails only if out
+/// of memory.
 pub fn with_consistency_error(
     object: Object,
     alloc: Global,
@@ -29,8 +30,8 @@ pub fn with_consistency_error(
     with_merkle(object, alloc, error)
 }
 
-/// The object with why an entry is not in a tree: `cause`, a list of `InclusionProofError` and the name of the error; and
-/// what the error keeps, as [`with_merkle`]. Fails only if out of memory.
+/// The object with why an entry is not in a tree: `cause`, a list of `InclusionProofError` and the name of the error;
+/// and what the error keeps, as [`with_merkle`]. Fails only if out of memory.
 pub fn with_inclusion_error(
     object: Object,
     alloc: Global,
@@ -73,8 +74,8 @@ pub fn with_inclusion(
     }
 }
 
-/// The object with why the note of a text is not one of the tree of this size and root. Of a note of this tree, and of a
-/// text that is not a checkpoint, the object stays as it is.
+/// The object with why the note of a text is not one of the tree of this size and root. Of a note of this tree, and of
+/// a text that is not a checkpoint, the object stays as it is.
 pub(crate) fn with_mismatch(
     object: Object,
     alloc: Global,

@@ -32,7 +32,7 @@ pub fn with_checkpoint_fault(
     )
 }
 
-/// The same of a text. Of one that is a checkpoint the object stays as it is. Fails only if out of memory.
+/// The same for a text. The object stays as it is for a checkpoint. Fails only if out of memory.
 pub fn with_unread(object: Object, alloc: Global, text: &str) -> Result<Object, OutOfMemory>
     ensures { IfOk result (λ made. members made
         ≡ members_into (members object) (unread_rows (checkpoint_of text.now))) }

@@ -1,4 +1,4 @@
--- What is shown of a refusal beside the error, link by link: what the link compares, of the inputs. Nothing is shown of
+-- What is shown of a refusal beside the error, link by link: what the link compares in the inputs. Nothing is shown of
 -- a part that cannot be read.
 use Rattle.std.specs.Prelude.{◌≡◌, ℕ, ℤ, List, [], ◌∷◌, ◌++◌, codes, Option, Some, None}
 use Rattle.sig_base.specs.OptionSteps.{◌>>=◌}
@@ -114,7 +114,7 @@ promised_rows i entry key =
     if_there (λ promise. if_there (λ text. asked_rows i.accepted key.0 key.1 text promise) (promise_text_of entry))
     entry.inclusion_promise
 
--- each of the note's signatures was
+-- each of the note's signatures was asked about under this scheme and key
 abbrev pub noted_rows : Inputs → TransparencyLogEntry → VerifyScheme × List ℕ → List TreeMember
 noted_rows i entry key =
     if_there (λ n. asked_note_rows i.accepted key.0 key.1 (note_text n.note) n.signatures) (checkpoint_of entry)

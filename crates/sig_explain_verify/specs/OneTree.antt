@@ -9,7 +9,7 @@ use Rattle.sig_verify.specs.OfflineVerdict.{IsOffline, Outcome}
 use Rattle.sig_verify.specs.Verdict.{Checker, PolicyOf}
 use Rattle.sig_verify.specs.declared.link.Link.{Link}
 
--- an error is that of a link, and not that memory ran out
+-- an error is that of a link, not out of memory
 abbrev pub IsOfLinks : Outcome → Type 0
 IsOfLinks (Ok entry) = Unit {0}
 IsOfLinks (Err error) = (link : Link) × (link_of error ≡ Some link)

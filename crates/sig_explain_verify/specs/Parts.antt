@@ -1,4 +1,4 @@
--- What the texts are read as, and what is taken of it; nothing where a text cannot be read.
+-- What the texts are read as, and what is taken from it; nothing if a text cannot be read.
 use Rattle.std.specs.Prelude.{◌≡◌, ℕ, ℤ, List, Option, Some, None, Result, slice_get}
 use Rattle.std.specs.List.{AllZip}
 use Rattle.std.specs.Result.{result_ok}

@@ -25,7 +25,7 @@ policy_refusal_rows policy =
     ∷ count_row (codes "total") (length (rules_of policy))
     ∷ []
 
--- Of a policy the inputs say it, and not the error, which may be that of a shorter form of the policy.
+-- For a policy the inputs give it, not the error, which may be that of a shorter form of the policy.
 abbrev pub told_rows : Inputs → OfflineError → List TreeMember
 told_rows i (Policy refusal) = policy_refusal_rows i.policy
 told_rows i error = refusal_rows error

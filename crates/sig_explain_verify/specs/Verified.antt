@@ -1,6 +1,6 @@
--- *Verified tree*: what is shown of a bundle that is verified: of the bundle as it passed its own checks, of the issuer
--- in the first certification path (RFC 5280 section 6.1) from its certificate to a trust anchor, and of the proof of its
--- log entry. Nothing is shown if one of them is not there.
+-- *Verified tree*: what is shown of a bundle that is verified: the bundle as it passed its own checks, of the issuer
+-- in the first certification path (RFC 5280 section 6.1) from its certificate to a trust anchor, and of the proof of
+-- its log entry. Nothing is shown if one of them is not there.
 use Rattle.std.specs.Prelude.{◌≡◌, List, [], Option, Some}
 use Rattle.std.specs.Result.{result_ok}
 use Rattle.sig_base.specs.Checker.{accepted}
@@ -32,7 +32,7 @@ accepts_of rows issuer algorithm tbs signature = accepted rows Certificate algor
 abbrev pub first_issuer : List AcceptedRow → List Cert → List Cert → Cert → Option Issuer
 first_issuer rows anchors further c = result_ok (path_start (accepts_of rows) (pool_over anchors further) c)
 
--- of a bundle that passed its own checks
+-- the issuer of a bundle that passed its own checks
 abbrev pub issuer_under : List AcceptedRow → Checked → List Cert → Option Issuer
 issuer_under rows c anchors =
     first_issuer rows anchors c.further c.certificate
@@ -50,7 +50,7 @@ pub record IsRunOf (i : Inputs) (b : Bundle) (c : Checked) (issued_by : Issuer) 
   pub digest : run.digest.now ≡ i.digest
   pub policy : run.policy.now ≡ i.policy
 
--- by a bundle, what its checks leave of it, and the issuer
+-- the tree by a bundle, what its checks return for it, and the issuer
 abbrev pub IsShownOf : Inputs → LoggedEntry → Option Bundle → Option Checked → Option Issuer → Data → Type 0
 IsShownOf i entry (Some b) (Some c) (Some issuer) tree =
     (run : VerifiedRun) × IsRunOf i b c issuer entry run × (tree ≡ object_of (verified_rows run))

@@ -38,7 +38,7 @@ pub(crate) fn read(alloc: Global, text: &[u8]) -> Result<Option<Bundle>, OutOfMe
     }
 }
 
-/// What a bundle's own checks leave of it; `None` if it does not pass them.
+/// Returns the result of a bundle's own checks; `None` if it does not pass them.
 pub(crate) fn check(alloc: Global, bundle: &Bundle) -> Result<Option<CheckedBundle>, OutOfMemory>
     ensures checked { IfOk result (IsCheckedOf (Some bundle.now)) }
     ensures few { IfOk result (λ found. IfSome found (λ c. length c.further ≤ 16)) }

@@ -22,7 +22,7 @@ use sig_shown::with_count;
 use sig_verify::{Link, OfflineError};
 use std::alloc::Global;
 
-/// The object of a refusal, under a trusted root that is at hand: see [`refused_explanation`]. The trusted root is not
+/// The object of a refusal, under a trusted root that was read: see [`refused_explanation`]. The trusted root is not
 /// read again. Fails only if out of memory.
 pub fn refused_explanation_under(
     alloc: Global,
@@ -178,9 +178,9 @@ fn with_logged(
 }
 
 /// The object of a refusal: what [`refusal`] says of the error, and what its link compares of the inputs, by the tables
-/// "What is shown of a refusal" of `docs/LINKS.md`. Of a policy `cause` and `total` are those of the policy of the inputs,
-/// so that the error may be that of a shorter form of it. Trusted root and bundle are read for it; of one that cannot be read
-/// nothing is shown. Fails only if out of memory.
+/// "What is shown of a refusal" of `docs/LINKS.md`. For a policy, `cause` and `total` are those of the policy of the
+/// inputs, so that the error may be that of a shorter form of it. Trusted root and bundle are read for it; for one that
+/// cannot be read nothing is shown. Fails only if out of memory.
 pub fn refused_explanation(
     alloc: Global,
     inputs: &VerifyInputs<'_>,

@@ -21,13 +21,13 @@ pub struct ShownRoot {
     pub(crate) fault: Option<DocumentFault>,
     /// The trusted root that it is.
     pub(crate) root: Option<TrustedRoot>,
-    /// What that gives at the time.
+    /// What the trusted root gives at the time.
     pub(crate) trust: Option<TrustParts>,
 }
 
 impl ShownRoot {
-    /// Returns what is shown of the trusted root that this text is, at a time in whole seconds since 1970. A text that is
-    /// one is read once; what is wrong with another is looked for in a second pass. Fails only if out of memory.
+    /// Returns what is shown of this text, a trusted root, at a time in whole seconds since 1970. A text that is
+    /// one is read once; the fault of another is found in a second pass. Fails only if out of memory.
     pub fn read(alloc: Global, text: &[u8], now: i64) -> Result<ShownRoot, OutOfMemory>
         ensures { IfOk result (IsShownRoot text.now now) }
     {

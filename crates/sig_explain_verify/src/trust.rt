@@ -1,5 +1,5 @@
-//! What a trusted root gives at a time: certificates of authorities, a pool of trust anchors, keys of logs, and what is shown of
-//! its logs.
+//! What a trusted root gives at a time: certificates of authorities, a pool of trust anchors, keys of logs, and what is
+//! shown of its logs.
 ghost use Rattle.std.specs.Prelude.{◌≡◌, IfOk};
 ghost use Rattle.sig_certificate.specs.Certificate.{IsCertificate};
 ghost use Rattle.sig_evidence.specs.Logs.{logs_tree};
@@ -31,7 +31,7 @@ pub(crate) struct TrustParts {
     pub(crate) tlogs: Document,
 }
 
-/// What a trusted root gives at a time; `None` if there is none. Fails only if out of memory.
+/// Returns what a trusted root gives at a time; `None` if it is absent. Fails only if out of memory.
 pub(crate) fn trust_in(
     alloc: Global,
     root: &Option<TrustedRoot>,
@@ -112,7 +112,7 @@ fn pool_of(alloc: Global, ders: &Entries) -> Result<Option<CertificatePool>, Out
         Ok(pool) => Ok(Some(pool)),
         Err(PoolError::Anchor(_)) => Ok(None),
         Err(PoolError::OutOfMemory) => Err(OutOfMemory),
-        // There are no intermediates, and none is asked whether it may issue.
+        // There are no intermediates, so none is checked for whether it may issue.
         Err(_) => unreachable!(),
     }
 }

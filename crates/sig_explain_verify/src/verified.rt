@@ -20,7 +20,7 @@ use sig_x509::uncounted::verify_cert_with_chain;
 use sig_x509::{CertificatePool, Issuer};
 use std::alloc::Global;
 
-/// The object of what was verified, under a trusted root that is at hand: see [`verified_explanation`]. The trusted root
+/// The object of what was verified, under a trusted root that was read: see [`verified_explanation`]. The trusted root
 /// is not read again. Fails only if out of memory.
 pub fn verified_explanation_under(
     alloc: Global,

@@ -1,4 +1,4 @@
--- *Bundle verdict*: what is found of a bundle of an artifact: every link of the chain of trust holds, and what its log
+-- *Bundle verdict*: the result for a bundle of an artifact: every link of the chain of trust holds, and what its log
 -- vouches for, or the first link that fails.
 use Rattle.std.specs.Prelude.{◌≡◌, ℕ, List, Option, Some, option_map, Ok, Err}
 use Rattle.sig_base.specs.ByText.{text_lookup}
@@ -37,7 +37,7 @@ IsOfflineVerdict o i verdict =
 
 -- ---- a bundle of an artifact
 
--- no link speaks of the refusal
+-- no link is about the refusal
 abbrev pub outside : Checker → RequestPolicy → Outside
 outside checker policy = record {
   checker = checker;

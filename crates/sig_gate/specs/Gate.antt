@@ -1,4 +1,4 @@
--- *Gate*: which artifacts of a manifest are admitted, and what is found of each bundle.
+-- *Gate*: which artifacts of a manifest are admitted, and the result for each bundle.
 use Rattle.std.specs.Prelude.{◌≡◌, ◌⊎◌, ◌↔◌, ℕ, Bool, true, List, [], ◌∷◌, Some}
 use Rattle.std.specs.List.{AllZip}
 use Rattle.sig_base.specs.ByText.{text_lookup}
@@ -13,7 +13,7 @@ use Rattle.sig_verify.specs.Links.{EveryChainLinkHolds, Inputs, OfPassed, Outsid
 use Rattle.sig_verify.specs.Verdict.{Checker}
 use Rattle.sig_verify.specs.declared.logged_entry.LoggedEntry.{LoggedEntry}
 
--- of the trusted root and the policy that an artifact names, and of a bundle of it, this holds
+-- this holds of the trusted root and the policy that an artifact names, and of a bundle of it
 abbrev pub OfBundle : Checker → Gate → Asked → List ℕ → (Outside → Inputs → Type 0) → Type 0
 OfBundle k gate x bundle P =
     (root : List ℕ) × (text_lookup x.root gate.roots ≡ Some root)
@@ -28,7 +28,7 @@ IsVerified k gate x bundle = OfBundle k gate x bundle EveryChainLinkHolds
 abbrev pub IsEntryOf : Checker → Gate → Asked → List ℕ → LoggedEntry → Type 0
 IsEntryOf k gate x bundle entry = OfBundle k gate x bundle (λ o i. OfPassed i (λ c. IsKept c.entry entry))
 
--- *Verified bundles*: of these bundles of an artifact those of which every link holds, in order, each as its log entry
+-- *Verified bundles*: those of an artifact's bundles for which every link holds, in order, each as its log entry
 abbrev pub AreVerified : Checker → Gate → Asked → List (List ℕ) → List LoggedEntry → Type 0
 AreVerified k gate x [] entries = entries ≡ []
 AreVerified k gate x (bundle ∷ later) entries =

@@ -1,4 +1,4 @@
--- What is held of the policies of a manifest, each made ready once.
+-- What is held of the policies of a manifest, each prepared once.
 use Rattle.std.specs.Prelude.{◌≡◌, ℕ, List, Some}
 use Rattle.sig_base.specs.ByText.{text_lookup}
 use Rattle.sig_manifest.specs.Manifest.{Gate}

@@ -22,7 +22,7 @@ bundle_line place (Verified entry) =
 bundle_line place (Refused link) =
     codes "bundle " ++ (decimal place ++ (codes " refused " ++ (link_name link ++ codes "\n")))
 
--- the lines of these bundles, of which the first is at this place
+-- the lines of these bundles, whose first is at this place
 abbrev pub bundle_lines : ℕ → List BundleVerdict → List ℕ
 bundle_lines place [] = []
 bundle_lines place (verdict ∷ later) = bundle_line place verdict ++ bundle_lines (place + 1) later

@@ -14,7 +14,7 @@ abbrev pub AreDifferent : List (List ℕ) → Type 0
 AreDifferent [] = Unit {0}
 AreDifferent (body ∷ later) = (¬ Contains later body) × AreDifferent later
 
--- there are so many log bodies of these entries, no two of them the same
+-- there are this many log bodies of these entries, no two of them the same
 pub record HasDifferent (count : ℕ) (entries : List LoggedEntry) : Type 0 where
   pub bodies : List (List ℕ)
   pub as_many : length bodies ≡ count

@@ -1,4 +1,4 @@
--- For private clauses: what of the verified bundles a rule is asked of.
+-- For private clauses: what a rule needs of the verified bundles.
 use Rattle.std.specs.Prelude.{◌≤◌, ◌↔◌, ℕ, Bool, true, false, ◌&&◌, ◌||◌, not, List, [], ◌∷◌, Option, Some, None}
 use Rattle.std.specs.Prelude.{bytes_eq, if◌then◌else◌, nat_le, nat_lt}
 use Rattle.std.specs.List.{list_any}
@@ -16,7 +16,7 @@ entries_of [] = []
 entries_of (Verified entry ∷ later) = entry ∷ entries_of later
 entries_of (Refused link ∷ later) = entries_of later
 
--- so many different log bodies
+-- the entries have this many different log bodies
 pub record IsDifferentCount (entries : List LoggedEntry) (count : ℕ) : Type 0 where
   pub exact : (asked : ℕ) → (asked ≤ count) ↔ HasDifferent asked entries
 
@@ -38,7 +38,7 @@ abbrev pub shows_origin : List ℕ → BundleVerdict → Bool
 shows_origin origin (Verified entry) = checkpoint_of_origin origin entry.proof.checkpoint
 shows_origin origin (Refused link) = false
 
--- whether a rule holds of bundles that have so many different log bodies and this largest tree size
+-- whether a rule holds of bundles that have this many different log bodies and this largest tree size
 module _ (bundles : List BundleVerdict) (different largest : ℕ) where
   abbrev mutual
     pub holds : Formula → Bool

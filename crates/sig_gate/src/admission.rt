@@ -17,16 +17,16 @@ use sig_base::{OutOfMemory, SignatureChecker};
 use sig_manifest::{Artifact, Manifest};
 use std::alloc::Global;
 
-/// Returns the verdict on each artifact of a manifest, in order. The verdict on a bundle is `Verified` with its log entry
-/// and proof if and only if every link of the chain of trust holds, of the text of the trusted root and the policy that
-/// the artifact names, the manifest's time, the artifact's digest and the bundle's text; else it is `Refused` with the
-/// first link that fails, as `verify_offline` of sig_verify tells it. A text that is not a trusted root is the link
-/// `root-json` of each bundle under it. An artifact is admitted if and only if some bundle of it is verified and its rule
-/// holds of those that are. The trusted roots and the policies that artifacts name have to be there. Fails only if out of
-/// memory.
+/// Returns the verdict on each artifact of a manifest, in order. The verdict on a bundle is `Verified` with its log
+/// entry and proof if and only if every link of the chain of trust holds for the text of the trusted root and the
+/// policy that the artifact names, the manifest's time, the artifact's digest and the bundle's text; else it is
+/// `Refused` with the first link that fails, as `verify_offline` of sig_verify returns it. A text that is not a trusted
+/// root is the link `root-json` of each bundle under it. An artifact is admitted if and only if at least one of its
+/// bundles is verified and its rule holds of those that are. The trusted roots and the policies that artifacts name
+/// have to be there. Fails only if out of memory.
 ///
-/// A trusted root is read once, and a policy's rules are gone over once, however many artifacts name it, and only if one of
-/// these has a bundle.
+/// A trusted root is read once, and a policy's rules are gone over once, however many artifacts name it, and only if
+/// one of these has a bundle.
 pub fn gate<C: SignatureChecker>(
     alloc: Global,
     manifest: &Manifest,

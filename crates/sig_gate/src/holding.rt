@@ -8,7 +8,7 @@ use crate::verdict::BundleVerdict;
 use sig_manifest::{Rule, Rules};
 use sig_rekor::SignedCheckpoint;
 
-/// What of the bundles of an artifact a rule is asked of.
+/// What a rule needs of the bundles of an artifact.
 #[derive(Clone, Copy)]
 pub(crate) struct Shown<'a> {
     /// The verdicts on them.

@@ -9,11 +9,11 @@ use sig_manifest::Manifest;
 use sig_policy::HeldPolicy;
 use std::alloc::Global;
 
-/// Policies that are ready to be asked of many certificates, by their names.
+/// Policies that are prepared for many certificates, by their names.
 pub type NamedPolicies<'a> = ByText<HeldPolicy<'a>>;
 
-/// Makes the policy of this name ready, if it is not held yet: one pass over its rules, however many artifacts name it. The
-/// manifest has to have the policy. Fails only if out of memory.
+/// Prepares the policy of this name, if it is not held yet: one pass over its rules, however many artifacts name it.
+/// The manifest has to have the policy. Fails only if out of memory.
 pub fn hold_policy<'a>(
     alloc: Global,
     held: &mut NamedPolicies<'a>,

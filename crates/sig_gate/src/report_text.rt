@@ -14,16 +14,16 @@ use sig_rekor::InclusionProof;
 use sig_verify::Link;
 use std::alloc::Global;
 
-/// Returns the report of verdicts on the artifacts of a manifest, one on each. For each artifact in order it has a line,
-/// the first that applies of
+/// Returns the report of verdicts on the artifacts of a manifest, one on each. For each artifact in order it has a
+/// line, the first that applies of
 ///
 /// - `artifact NAME admit`: it is admitted;
 /// - `artifact NAME deny rule`: its rule does not hold of the bundles that are verified;
 /// - `artifact NAME deny none`: no bundle of it is verified;
 ///
-/// then for each bundle in order, PLACE being its index, `bundle PLACE verified I N` with the index and the tree size of
-/// its proof, or `bundle PLACE refused LINK` with the name of the first link that fails; and at the end `admitted A of T`,
-/// of how many artifacts how many are admitted. Fails only if out of memory.
+/// then for each bundle in order, PLACE being its index, `bundle PLACE verified I N` with the index and the tree size
+/// of its proof, or `bundle PLACE refused LINK` with the name of the first link that fails; and at the end `admitted A
+/// of T`, where A of T artifacts are admitted. Fails only if out of memory.
 pub fn report(alloc: Global, manifest: &Manifest, verdicts: &Verdicts) -> Result<Text, OutOfMemory>
     requires { length verdicts.now ≡ length manifest.now.artifacts }
     ensures { IfOk result (λ text. text ≡ report_text (artifacts_view manifest.entry.now.artifacts) verdicts.now) }
@@ -138,7 +138,7 @@ fn push_verified(
     Ok(())
 }
 
-/// Writes the line of a bundle of which a link fails after a text. Fails only if out of memory.
+/// Appends the line of a bundle with a failing link to a text. Fails only if out of memory.
 fn push_refused(
     alloc: Global,
     text: &mut String,

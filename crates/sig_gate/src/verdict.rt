@@ -1,9 +1,9 @@
-//! `Verdict`: what a gate finds of an artifact and of each of its bundles.
+//! `Verdict`: the result of a gate for an artifact and each of its bundles.
 
 use sig_base::OwnedList;
 use sig_verify::{Link, LoggedEntry};
 
-/// What is found of a bundle.
+/// The result for a bundle.
 #[derive(Drop)]
 pub enum BundleVerdict {
     /// Every link of the chain of trust holds; this is the bundle's log entry, with its proof.
@@ -15,12 +15,12 @@ pub enum BundleVerdict {
 /// Verdicts on bundles in order.
 pub type BundleVerdicts = OwnedList<BundleVerdict>;
 
-/// What is found of an artifact.
+/// The result for an artifact.
 #[derive(Drop)]
 pub struct Verdict {
     /// Whether it is admitted: some bundle of it is verified, and its rule holds of those that are.
     pub admitted: bool,
-    /// What is found of each of its bundles, in order.
+    /// The results for its bundles, in order.
     pub bundles: BundleVerdicts,
 }
 

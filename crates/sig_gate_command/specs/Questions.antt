@@ -22,11 +22,11 @@ use Rattle.sig_witness_command.specs.Questions.{each_once_after}
 
 -- ---- what the chain of trust of each bundle is about
 
--- of these bundles of an artifact, under a trusted root's text
+-- the inputs of these bundles of an artifact, under a trusted root's text
 abbrev pub inputs_in : Gate → Asked → List ℕ → List (List ℕ) → List Inputs
 inputs_in gate x root bundles = map (inputs gate x root) bundles
 
--- under the trusted root that the artifact names; it is there
+-- the inputs under the trusted root that the artifact names, if it is there
 abbrev pub inputs_under : Gate → Asked → Option (List ℕ) → List Inputs
 inputs_under gate x None = []
 inputs_under gate x (Some root) = inputs_in gate x root x.bundles
@@ -54,7 +54,7 @@ pub record AreItsRows (i : Inputs) (rows : List AcceptedRow) : Type 0 where
   pub are : AreQuestions i rows
   pub asked : (row : AcceptedRow) → Contains rows row ↔ IsAskedBy i row
 
--- it asks for none, since a link up to `issuer` fails whatever is accepted
+-- it does not ask for any, since a link up to `issuer` fails whatever is accepted
 pub record HasNone (i : Inputs) (rows : List AcceptedRow) : Type 0 where
   pub link : Link
   pub fails : FailsFirst (HoldsUnasked i) question_links link
@@ -72,13 +72,13 @@ AreRows (i ∷ is) rows =
 abbrev pub AreGateRows : Gate → List AcceptedRow → Type 0
 AreGateRows gate rows = AreRows (gate_inputs gate) rows
 
--- each once, in the order in which they come first
+-- each row once, in the order in which they come first
 abbrev pub each_once : List AcceptedRow → List AcceptedRow
 each_once rows = each_once_after [] rows
 
 -- ---- the reply
 
--- so many bytes the signatures may have, each counted as often as a bundle asks for it
+-- the greatest number of bytes of the signatures, each counted as often as a bundle asks for it
 abbrev pub most_asked : ℕ
 most_asked = 2 ^ 26
 
@@ -109,8 +109,8 @@ pub record HasNoRoom (text : List ℕ) : Type 0 where
 abbrev pub IsUnasked : List ℕ → Type 0
 IsUnasked text = IsUnread text ⊎ HasNoRoom text
 
--- The reply of `questions gate`: the list of the signatures, each once, which is read back as them, with status 0 if and
--- only if the text is a manifest and they fit; else `refused request`.
+-- The reply of `questions gate`: the list of the signatures, each once, which is read back as them, with status 0 if
+-- and only if the text is a manifest and they fit; else `refused request`.
 pub record IsGateQuestionsReply (text : List ℕ) (reply : Reply) : Type 0 where
   pub decided : HasQuestions text ⊎ IsUnasked text
   pub succeeds : (reply.status ≡ 0) ↔ HasQuestions text
@@ -120,12 +120,12 @@ pub record IsGateQuestionsReply (text : List ℕ) (reply : Reply) : Type 0 where
 
 -- ---- for private clauses
 
--- the signatures are few, and their list, with each once, has at most so many bytes
+-- the signatures are few, and their list, with each once, has at most this many bytes
 pub record AreWithin (most : ℕ) (rows : List AcceptedRow) : Type 0 where
   pub few : bytes_of_rows rows ≤ most_asked
   pub short : length (rows_text (each_once rows)) ≤ most
 
--- the document of the signatures that the bundles ask for; none if they are not within
+-- the document of the signatures that the bundles ask for; `None` if they are not within
 abbrev pub IsQuestionsDocument : ℕ → Gate → Option (List ℕ) → Type 0
 IsQuestionsDocument most gate None = (rows : List AcceptedRow) → AreGateRows gate rows → ¬ AreWithin most rows
 IsQuestionsDocument most gate (Some text) =

@@ -10,7 +10,7 @@ pub record IsGateText (text : List ℕ) (parts : Parts) : Type 0 where
   pub short : length text ≤ most_bytes
   pub is : IsManifestWith text parts
 
--- it is none
+-- the text is not a manifest
 abbrev pub IsUnread : List ℕ → Type 0
 IsUnread text = (parts : Parts) → ¬ IsGateText text parts
 

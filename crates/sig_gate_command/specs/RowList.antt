@@ -25,7 +25,7 @@ pub record HasRoom (rows : RowList) : Type 0 where
   pub room : rows.size < rows.most
   pub least : 1 < rows.most
 
--- what a signature is found by: the document of it alone
+-- what a signature is found by: the document of only this signature
 abbrev pub row_name : AcceptedRow → List ℕ
 row_name row = rows_text (row ∷ [])
 
@@ -50,7 +50,7 @@ pub record IsNewRow (row : AcceptedRow) (old new : RowList) : Type 0 where
   pub read : IsRowReadBack row
   pub names : new.names ≡ text_put (row_name row) new.size old.names
 
--- it is not listed, and has no room; or it has none alone
+-- it is not listed, and has no room; or it has no room even by itself
 abbrev pub IsPastRow : AcceptedRow → RowList → RowList → Type 0
 IsPastRow row old new =
     (old.most < length (row_name row))

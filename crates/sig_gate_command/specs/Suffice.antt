@@ -17,7 +17,7 @@ use Rattle.sig_witness_command.specs.Suffice.{AreDifferent}
 abbrev pub AskFor : Gate → AcceptedRow → Type 0
 AskFor gate row = (i : Inputs) × Contains (gate_inputs gate) i × AsksFor i row
 
--- two lists of accepted signatures have the same of those that the bundles ask for, also where no list was written
+-- two lists of accepted signatures agree on those that the bundles ask for, also where no list was written
 abbrev pub AgreeOnAsked : Gate → List AcceptedRow → List AcceptedRow → Type 0
 AgreeOnAsked gate one other = (row : AcceptedRow) → AskFor gate row → Contains one row ↔ Contains other row
 
@@ -29,14 +29,14 @@ GateQuestionsSuffice =
     → IsGateText text (gate, rows) → IsGateText other (gate, changed) → AgreeOnAsked gate rows changed
     → (reply : Reply) → IsGateReply text reply ↔ IsGateReply other reply
 
--- Each signature that a bundle asks for is listed, and no other, and none twice.
+-- Each signature that a bundle asks for is listed once, and no other is.
 abbrev pub GateRowsAreEachOnce : Type 0
 GateRowsAreEachOnce =
     (gate : Gate) (rows : List AcceptedRow) → AreGateRows gate rows
     → ((row : AcceptedRow) → Contains (each_once rows) row ↔ AskFor gate row) × AreDifferent (each_once rows)
 
--- The manifest with the list put in as `accepted`, before its last brace or wherever else, has at most as many bytes as a
--- request may have.
+-- The manifest with the list put in as `accepted`, before its last brace or wherever else, has at most as many bytes as
+-- a request may have.
 abbrev pub GateListsAreGivenBack : Type 0
 GateListsAreGivenBack =
     (front after list : List ℕ) (reply : Reply) → IsGateQuestionsReply (front ++ after) reply → reply ≡ listed list

@@ -41,7 +41,7 @@ pub(crate) fn hold_root(
     Ok(())
 }
 
-/// What is to be held of the trusted root of this name.
+/// Returns what to hold of the trusted root of this name.
 fn read_named(alloc: Global, manifest: &Manifest, name: &str) -> Result<NamedRoot, OutOfMemory>
     requires { IsSome (text_lookup name.now manifest.now.roots) }
     ensures { IfOk result (IsRootNamed (manifest_view manifest.entry.now) name.now) }
@@ -52,7 +52,7 @@ fn read_named(alloc: Global, manifest: &Manifest, name: &str) -> Result<NamedRoo
     read_root(alloc, text.as_bytes(), manifest.now)
 }
 
-/// What is to be held of a trusted root of this text at a time.
+/// Returns what to hold of a trusted root of this text at a time.
 fn read_root(alloc: Global, text: &[u8], now: i64) -> Result<NamedRoot, OutOfMemory>
     ensures { IfOk result (IsRootOf text.now now) }
 {

@@ -12,22 +12,23 @@ use sig_questions::laws::one_list;
 use sig_reply::{Reply, room_beside};
 use std::alloc::Global;
 
-/// All signatures that the bundles of a manifest ask for have at most so many bytes, where each counts as often as it is
+/// The greatest number of bytes of all signatures that a manifest's bundles ask for, each counted as often as it is
 /// asked for. It is 2^26, four times what a request may have.
 pub const MOST_ASKED: usize = 67_108_864;
 
-/// Returns the reply to a request's text: the list of the signatures that `gate` asks for, with status 0. They are those
-/// that [`questions`](sig_questions::questions) lists of each bundle of each artifact in order, under the artifact's
-/// trusted root, the time of the manifest and the artifact's digest, each signature once, in the order in which they
-/// come first. A bundle of which a link up to `issuer` fails whatever is accepted asks for nothing.
+/// Returns the reply to a request's text: the list of the signatures that `gate` asks for, with status 0. They are
+/// those that [`questions`](sig_questions::questions) lists of each bundle of each artifact in order, under the
+/// artifact's trusted root, the time of the manifest and the artifact's digest, each signature once, in the order in
+/// which they come first. A bundle does not ask for any if a link up to `issuer` fails whatever is accepted.
 ///
 /// Else it is `refused request`, with status 2: if the text has more than 2^24 bytes or is not a manifest; if the
 /// signatures have more than 2^26 bytes, each counted as often as a bundle asks for it; or if text, list and
-/// `,"accepted":` would have more than 2^24 bytes together. Which signatures the manifest itself accepts does not matter.
-/// Fails only if out of memory.
+/// `,"accepted":` would have more than 2^24 bytes together. Which signatures the manifest itself accepts does not
+/// matter. Fails only if out of memory.
 ///
-/// Of two manifests that differ in their accepted signatures alone, and in none of those that are asked for, `gate` has
-/// the same reply, also where no list is written. And a list that is written fits one request with the manifest that it is of.
+/// For two manifests that differ only in accepted signatures that are not asked for, `gate` has
+/// the same reply, also where no list is written. And a list that is written fits one request with the manifest that it
+/// is of.
 pub fn gate_questions(alloc: Global, request: &[u8]) -> Result<Reply, OutOfMemory>
     ensures reply { IfOk result (IsGateQuestionsReply request.now) }
     ensures suffice { GateQuestionsSuffice }

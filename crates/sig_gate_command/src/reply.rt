@@ -12,17 +12,17 @@ use sig_manifest::Manifest;
 use sig_reply::Reply;
 use std::alloc::Global;
 
-/// Returns the reply to a request's text, a manifest: the report of the verdicts on its artifacts, by the signatures that it
-/// accepts. For each artifact in order it has the first line that applies of
+/// Returns the reply to a request's text, a manifest: the report of the verdicts on its artifacts, by the signatures
+/// that it accepts. For each artifact in order it has the first line that applies of
 ///
 /// - `artifact NAME admit`: some bundle of it is verified, and its rule holds of those that are;
 /// - `artifact NAME deny rule`: some bundle is verified, and the rule does not hold;
 /// - `artifact NAME deny none`: no bundle is verified;
 ///
-/// then for each bundle in order, PLACE being its index, `bundle PLACE verified I N` with the index and the tree size of
-/// its proof, or `bundle PLACE refused LINK` with the first link of `verify` that fails; and at the end `admitted A of T`,
-/// of T artifacts how many are admitted. The status is 0 if all are, else 1; and it is 2, with `refused request`, if the
-/// text has more than 2^24 bytes or is not a manifest. Fails only if out of memory.
+/// then for each bundle in order, PLACE being its index, `bundle PLACE verified I N` with the index and the tree size
+/// of its proof, or `bundle PLACE refused LINK` with the first link of `verify` that fails; and at the end `admitted A
+/// of T`, where A of T artifacts are admitted. The status is 0 if all are, else 1; and it is 2, with `refused request`,
+/// if the text has more than 2^24 bytes or is not a manifest. Fails only if out of memory.
 pub fn gate_reply(alloc: Global, request: &[u8]) -> Result<Reply, OutOfMemory>
     ensures { IfOk result (IsGateReply request.now) }
 {
@@ -45,8 +45,8 @@ fn reply_to(alloc: Global, request: &GateRequest) -> Result<Reply, OutOfMemory>
     reply
 }
 
-/// Returns the reply with these verdicts on the artifacts of a manifest, one on each: their report, with status 0 if each
-/// artifact is admitted, else 1. Fails only if out of memory.
+/// Returns the reply with these verdicts on the artifacts of a manifest, one on each: their report, with status 0 if
+/// each artifact is admitted, else 1. Fails only if out of memory.
 pub fn report_reply(
     alloc: Global,
     manifest: &Manifest,

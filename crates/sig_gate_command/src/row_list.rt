@@ -22,7 +22,7 @@ pub struct RowList {
     pub most: usize,
     /// How many bytes the signatures may have that are still to be added, each counted as often as it is.
     pub left: usize,
-    /// Which signatures are listed: by the document of each alone.
+    /// The listed signatures, each by the document of only this signature.
     pub names: ByText<usize>,
 }
 
@@ -40,8 +40,8 @@ impl RowList {
         }
     }
 
-    /// Adds a signature unless it is listed; `false` if the list would have more than `most` bytes. Fails only if out of
-    /// memory.
+    /// Adds a signature unless it is listed; `false` if the list would have more than `most` bytes. Fails only if out
+    /// of memory.
     pub fn add(&mut self, alloc: Global, row: &AcceptedRow) -> Result<bool, OutOfMemory>
         requires room { HasRoom self.old }
         requires left { row_bytes row.now ≤ self.old.left }
@@ -64,7 +64,7 @@ impl RowList {
     }
 }
 
-/// What is left of so many bytes after those of a signature.
+/// Returns what is left of this many bytes after those of a signature.
 fn left_after(left: usize, row: &AcceptedRow) -> usize
     requires { row_bytes row.now ≤ left }
     ensures { result + row_bytes row.now ≡ left }
@@ -75,8 +75,8 @@ fn left_after(left: usize, row: &AcceptedRow) -> usize
     left - row.signature.as_slice().len()
 }
 
-/// The document of a list of this signature alone; `None` if it would have more than `most` bytes. Fails only if out of
-/// memory.
+/// Returns the document of a list of only this signature; `None` if it would have more than `most` bytes. Fails only if
+/// out of memory.
 fn text_alone(alloc: Global, row: &AcceptedRow, most: usize) -> Result<Option<Text>, OutOfMemory>
     requires least { 2 ≤ most }
     requires scheme { IsSchemeUnder row.now.operation row.now.scheme }

@@ -6,7 +6,7 @@ use Rattle.sig_manifest.specs.declared.rule.Rule.TheOpen.{Rule-F}
 
 mutual
   pub data Formula : Type 0 where
-    -- at least so many different log bodies
+    -- at least this many different log bodies
     at_least : ℕ → Formula
     -- a checkpoint of a log of this origin
     with_origin : List ℕ → Formula

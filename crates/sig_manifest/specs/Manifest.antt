@@ -25,7 +25,7 @@ abbrev pub manifest_view : Manifest → Gate
 manifest_view m =
     record { now = m.now; roots = m.roots; policies = m.policies; artifacts = artifacts_view m.artifacts }
 
--- the artifacts have at most so many bundles together
+-- the artifacts have at most this many bundles together
 abbrev pub are_few_bundles : ℕ → List Asked → Bool
 are_few_bundles most [] = true
 are_few_bundles most (x ∷ xs) =

@@ -11,7 +11,7 @@ use Rattle.sig_request.specs.Policy.{request_policy_of}
 abbrev pub ByName : Type 0
 ByName = List (List ℕ × RequestPolicy)
 
--- the policies that these members are, beside those that are there
+-- the policies that these members are, added to the present ones
 abbrev pub policies_beside : ByName → List (List ℕ × Data) → Option ByName
 policies_beside there [] = Some there
 policies_beside there (m ∷ ms) =

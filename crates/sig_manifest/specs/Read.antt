@@ -1,4 +1,4 @@
--- A text as a manifest with the rows of its `accepted`, or the first cause why it is none.
+-- A text as a manifest with the rows of its `accepted`, or the first cause why it is not one.
 use Rattle.std.specs.Prelude.{◌≡◌, ℕ, List, Option, Some, None, Result, Ok, Err}
 use Rattle.sig_base.specs.declared.checker.AcceptedRow.{AcceptedRow}
 use Rattle.sig_json.specs.Data.{Data}
@@ -40,7 +40,7 @@ pub record IsReadAs (text : List ℕ) (parts : Parts) : Type 0 where
   pub document : document_of text ≡ Ok tree
   pub members : with_rows with_accepted tree ≡ Some parts
 
--- the text is this manifest with these rows: it is read so, and what its artifacts name is there
+-- the text is this manifest with these rows: it means this, and what its artifacts name is there
 pub record IsManifestWith (text : List ℕ) (parts : Parts) : Type 0 where
   pub read : IsReadAs text parts
   pub named : AreNamed parts.0

@@ -1,6 +1,6 @@
 -- *Rule*: an object with exactly one of the members `least` (an integer from 1 to 16), `origin` (a text), `size` (an
--- integer in u64), `all` and `any` (a list of at least one rule), and `not` (a rule). A rule has at most 64 nodes: itself,
--- and those of the rules in it.
+-- integer in u64), `all` and `any` (a list of at least one rule), and `not` (a rule). A rule has at most 64 nodes:
+-- itself, and those of the rules in it.
 use Rattle.std.specs.Prelude.{ℕ, zero, suc, List, [], ◌∷◌, codes, Bool, ◌&&◌, if◌then◌else◌, nat_lt, Option, Some, None}
 use Rattle.std.specs.Prelude.{is_some, option_map}
 use Rattle.sig_base.specs.OptionSteps.{◌>>=◌}
@@ -15,7 +15,7 @@ use Rattle.sig_manifest.specs.declared.read_rule.Form.TheVariants.{Least, Origin
 
 -- ---- the one member that is there
 
--- the value of an object's member; none where it is absent or null, and where there is no object
+-- the value of an object's member; `None` if it is absent or null, or if there is no object
 abbrev pub value_of : List ℕ → Data → Option Data
 value_of name d = get name d >>= not_null
 
@@ -31,13 +31,13 @@ name_of Not = codes "not"
 abbrev pub form_there : Form → Data → Option Form
 form_there form d = if is_some (value_of (name_of form) d) then Some form else None
 
--- one form at most: the one that was found before, or the next; nothing where both are there
+-- at most one form: the one that was found before, or the next; nothing if both are there
 unfoldable pub one_at_most : Option Form → Option Form → Option (Option Form)
 one_at_most found None = Some found
 one_at_most None (Some next) = Some (Some next)
 one_at_most (Some form) (Some next) = None
 
--- the form of a rule: the one of these members that is there; nothing where none is there, or two are
+-- the form of a rule: the one of these members that is there; nothing unless exactly one is there
 unfoldable pub form_of : Data → Option Form
 form_of d = do
   of_two ← one_at_most (form_there Least d) (form_there Origin d)
@@ -69,12 +69,12 @@ rule_as inner All d = value_of (codes "all") d >>= λ list. option_map (λ fs. a
 rule_as inner Any d = value_of (codes "any") d >>= λ list. option_map (λ fs. any_of (formulas_of fs)) (rules_in inner list)
 rule_as inner Not d = value_of (codes "not") d >>= λ rule. option_map not_so (inner rule)
 
--- a rule in which rules nest to at most so many levels
+-- a rule in which rules nest to at most this many levels
 unfoldable pub rule_within : ℕ → Data → Option Formula
 rule_within zero d = None
 rule_within (suc levels) d = form_of d >>= λ form. rule_as (rule_within levels) form d
 
--- a formula of at most so many nodes
+-- a formula of at most this many nodes
 abbrev pub of_at_most : ℕ → Formula → Option Formula
 of_at_most most f = if is_some (left_of most (nodes f)) then Some f else None
 

@@ -18,7 +18,7 @@ unknown_by place (Some root) (Some policy) = None
 abbrev pub unknown_at : Gate → ℕ → Asked → Option ManifestError
 unknown_at gate place x = unknown_by place (text_lookup x.root gate.roots) (text_lookup x.policy gate.policies)
 
--- why the first of these is refused, of which the first is at this place
+-- why the first refused artifact of these is refused; the first of these is at this place
 abbrev pub unknown_from : Gate → ℕ → List Asked → Option ManifestError
 unknown_from gate place [] = None
 unknown_from gate place (x ∷ xs) = option_or (unknown_at gate place x) (unknown_from gate (place + 1) xs)
@@ -31,13 +31,13 @@ pub record IsNamedIn (gate : Gate) (x : Asked) : Type 0 where
   pub root : IsSome (text_lookup x.root gate.roots)
   pub policy : IsSome (text_lookup x.policy gate.policies)
 
--- those of each artifact
+-- the trusted root and the policy of each artifact are there
 abbrev pub AreNamed : Gate → Type 0
 AreNamed gate = AllByRecursion (IsNamedIn gate) gate.artifacts
 
 -- ---- the same in the words of the manifest
 
--- a list of artifacts has this one after so many, of each of which trusted root and policy are there
+-- a list of artifacts has this one after `count` others whose trusted roots and policies are there
 pub record IsAfterNamed (gate : Gate) (xs : List Asked) (count : ℕ) (x : Asked) : Type 0 where
   pub before : List Asked
   pub after : List Asked
@@ -51,7 +51,7 @@ pub record IsUnknownRoot (gate : Gate) (place : ℕ) : Type 0 where
   pub first : IsAfterNamed gate gate.artifacts place artifact
   pub root : text_lookup artifact.root gate.roots ≡ None
 
--- the same of the policy, where the trusted root is there
+-- the same for the policy, if the trusted root is there
 pub record IsUnknownPolicy (gate : Gate) (place : ℕ) : Type 0 where
   pub artifact : Asked
   pub first : IsAfterNamed gate gate.artifacts place artifact

@@ -14,13 +14,13 @@ use sig_json::{
 use sig_request::ArtifactDigestReader;
 use std::alloc::Global;
 
-/// A manifest has at most so many artifacts, and at least one.
+/// The greatest number of artifacts of a manifest, which has at least one.
 pub const MOST_ARTIFACTS: usize = 256;
 
-/// The artifacts of a manifest have at most so many bundles together.
+/// The greatest number of bundles of all artifacts of a manifest.
 pub const MOST_BUNDLES: usize = 256;
 
-/// The name of an artifact has at most so many bytes, and at least one.
+/// The greatest number of bytes of an artifact's name, which has at least one.
 pub const MOST_NAME: usize = 256;
 
 /// An artifact, with what it is to be admitted by.
@@ -60,7 +60,7 @@ impl ElementReader for NameReader {
     }
 }
 
-/// Whether a text is the name of an artifact: 1 to 256 bytes, none of them below 21 hex or above 7e hex.
+/// Whether a text is the name of an artifact: 1 to 256 bytes, each from 21 hex to 7e hex.
 fn is_name(text: &str) -> bool
     ensures { result ≡ is_name text.now }
 {

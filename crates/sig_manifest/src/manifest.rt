@@ -25,7 +25,7 @@ pub struct Manifest {
     pub artifacts: Artifacts,
 }
 
-/// Whether there are so many artifacts as a manifest may have, with so many bundles: from 1 to 256, and at most 256 of
+/// Whether there are as many artifacts and bundles as a manifest may have: from 1 to 256, and at most 256 of
 /// all together.
 pub fn is_within(artifacts: &[Artifact]) -> bool
     ensures { result ≡ is_within (artifacts_view artifacts.now) }
@@ -64,7 +64,7 @@ pub(crate) fn read_members(alloc: Global, json: Json<'_, '_>) -> Result<Manifest
     })
 }
 
-/// The manifest, if it has so many artifacts as it may have. Fails with `Member` if not.
+/// The manifest, if it has as many artifacts as it may have. Fails with `Member` if not.
 fn kept_within(manifest: Manifest) -> Result<Manifest, MemberError>
     ensures { Answers MemberError.OutOfMemory manifest_view result
         (or_member (kept_within (manifest_view manifest))) }

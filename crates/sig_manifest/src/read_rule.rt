@@ -1,7 +1,8 @@
 //! A rule, as a manifest has it: an object with exactly one of six members.
 //!
 //! ```text
-//! { "all": [ { "least": 2 }, { "any": [ { "origin": "log.example" }, { "size": 1000 } ] }, { "not": { "least": 9 } } ] }
+//! { "all": [ { "least": 2 }, { "any": [ { "origin": "log.example" }, { "size": 1000 } ] }, { "not": { "least": 9 } } ]
+//! }
 //! ```
 ghost use Rattle.std.specs.Prelude.{◌≡◌, option_map};
 ghost use Rattle.sig_base.specs.Answers.{Answers};
@@ -20,13 +21,13 @@ use std::alloc::Global;
 /// Which member a rule has.
 #[derive(Clone, Copy, PartialEq, Eq)]
 pub enum Form {
-    /// At least so many different log bodies.
+    /// At least a number of different log bodies.
     Least,
     /// A checkpoint of a log of this origin.
     Origin,
     /// A tree of at least this size.
     Size,
-    /// What each of these rules asks for.
+    /// What each of these rules requires.
     All,
     /// What one of these rules asks for.
     Any,
@@ -115,7 +116,7 @@ impl ElementReader for RuleReader {
     }
 }
 
-/// Reads a rule in which rules nest to at most so many levels.
+/// Reads a rule in which rules nest to at most `depth` levels.
 #[cycle(rules)]
 #[tactic(auto, using(crate::proofs::Levels::levels))]
 fn read_rule(alloc: Global, json: Json<'_, '_>, levels: usize) -> Result<Rule, MemberError>
@@ -129,7 +130,7 @@ fn read_rule(alloc: Global, json: Json<'_, '_>, levels: usize) -> Result<Rule, M
     read_as(alloc, form, json, levels - 1)
 }
 
-/// Reads a rule of this form, in which rules nest to at most so many levels below it.
+/// Reads a rule of this form, in which rules nest to at most this many levels below it.
 #[cycle(rules)]
 #[tactic(auto, using(crate::proofs::RuleViews::views), unfolding(crate::specs::RuleTable::rule_as))]
 fn read_as(
@@ -160,7 +161,7 @@ fn read_as(
     }
 }
 
-/// How many different log bodies a rule asks for. Fails with `Member` for none, and for more than 16.
+/// Reads how many different log bodies a rule requires. Fails with `Member` for none, and for more than 16.
 #[tactic(auto, using(crate::proofs::RuleViews::views))]
 fn least_in(least: u64) -> Result<Rule, MemberError>
     ensures { Answers MemberError.OutOfMemory rule_view result (or_member (least_in least)) }
@@ -171,7 +172,7 @@ fn least_in(least: u64) -> Result<Rule, MemberError>
     Err(MemberError::Member)
 }
 
-/// Reads a list of at least one rule, in each of which rules nest to at most so many levels.
+/// Reads a list of at least one rule, in each of which rules nest to at most this many levels.
 #[cycle(rules)]
 #[tactic(auto, using(crate::proofs::Elements::elements))]
 fn read_rules(alloc: Global, list: Json<'_, '_>, levels: usize) -> Result<Rules, MemberError>

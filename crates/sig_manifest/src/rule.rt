@@ -4,22 +4,22 @@ ghost use Rattle.sig_manifest.specs.Formula.{rule_view, rules_view};
 
 use sig_base::{OutOfMemory, Text};
 
-/// A rule asks for at most so many different log bodies, and at least for one.
+/// The greatest number of different log bodies that a rule requires; the least is one.
 pub const MOST_LEAST: u64 = 16;
 
-/// A rule has at most so many nodes: itself, and those of the rules in it.
+/// The greatest number of nodes of a rule: itself, and those of the rules in it.
 pub const MOST_NODES: usize = 64;
 
 /// What the bundles of an artifact that verify have to show. Contracts see a `Formula`.
 #[derive(Drop)]
 pub enum Rule {
-    /// At least so many different log bodies.
+    /// At least this many different log bodies.
     Least(u64),
     /// A checkpoint of a log of this origin.
     Origin(Text),
     /// A tree of at least this size.
     Size(u64),
-    /// What each of these asks for.
+    /// What each of these rules requires.
     All(Rules),
     /// What one of these asks for.
     Any(Rules),

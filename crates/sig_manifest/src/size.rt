@@ -5,14 +5,14 @@ ghost use Rattle.sig_manifest.specs.Size.{left_of};
 
 use crate::rule::{Rule, Rules};
 
-/// Whether a rule has at most so many nodes. It stops at the first node that is too many.
+/// Whether a rule has at most `most` nodes. It stops at the first node that is too many.
 pub(crate) fn is_within(rule: &Rule, most: usize) -> bool
     ensures { result ≡ is_some (left_of most (nodes (rule_view rule.now))) }
 {
     left(rule, most).is_some()
 }
 
-/// How many nodes are left of so many after those of a rule; `None` if the rule has more.
+/// Returns how many of `most` nodes are left after those of a rule; `None` if the rule has more.
 #[cycle(size)]
 #[tactic(auto, using(crate::proofs::Sizes::sizes, crate::proofs::RuleViews::views))]
 fn left(rule: &Rule, most: usize) -> Option<usize>
@@ -28,7 +28,7 @@ fn left(rule: &Rule, most: usize) -> Option<usize>
     }
 }
 
-/// How many nodes are left of so many after those of some rules; `None` if the rules have more.
+/// Returns how many of `most` nodes are left after those of some rules; `None` if the rules have more.
 #[cycle(size)]
 #[tactic(auto, using(crate::proofs::Sizes::sizes, crate::proofs::RuleViews::views))]
 fn left_after(rules: &Rules, most: usize) -> Option<usize>

@@ -12,7 +12,7 @@ use Rattle.sig_payload.specs.Signing.{Beside, Signing}
 abbrev pub Asked : Type 0
 Asked = List (List ℕ × List ℕ)
 
--- the digits of a number; a float has none, and no document holds one
+-- the digits of a number; a float has none, and documents do not hold floats
 abbrev pub is_number_said : List ℕ → Option ℤ → Bool
 is_number_said text None = false
 is_number_said text (Some n) = bytes_eq (signed_decimal n) text
@@ -46,7 +46,7 @@ is_no_member None = true
 is_no_member (Some []) = true
 is_no_member (Some (m ∷ ms)) = false
 
--- no object, or one without members
+-- not an object, or one without members
 unfoldable pub is_empty_extra : Data → Bool
 is_empty_extra d = is_no_member (members_of d)
 
@@ -57,7 +57,7 @@ abbrev pub beside_satisfies : Option Beside → Asked → Bool
 beside_satisfies None asked = false
 beside_satisfies (Some beside) asked = optional_satisfies beside asked
 
--- nothing that is asked for is always there
+-- an empty list of required annotations is always satisfied
 unfoldable pub satisfies : Signing → Asked → Bool
 satisfies signing [] = true
 satisfies signing (first ∷ others) = beside_satisfies signing.optional (first ∷ others)

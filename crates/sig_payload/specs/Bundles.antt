@@ -22,7 +22,7 @@ use Rattle.sig_payload.specs.declared.bundle.Bundle.{Bundle}
 use Rattle.sig_payload.specs.declared.bundle.Payload.{Payload}
 use Rattle.sig_payload.specs.declared.bundle.SignedArtifactBundle.{SignedArtifactBundle}
 
--- what a checker accepts of a scheme and an SPKI: messages and signatures
+-- the messages and signatures that a checker accepts for a scheme and an SPKI
 abbrev pub AcceptsSpki : Type 0
 AcceptsSpki = VerifyScheme → List ℕ → List ℕ → List ℕ → Bool
 
@@ -60,7 +60,7 @@ abbrev pub from_canonical : Result (List ℕ) CanonicalError → Result (List �
 from_canonical (Ok text) = Ok text
 from_canonical (Err error) = Err (of_canonical error)
 
--- its canonical text (RFC 8785), or that an integer of it has none
+-- its canonical text (RFC 8785), or that one of its integers does not have one
 abbrev pub payload_text : Payload → Result (List ℕ) SigstoreError
 payload_text payload = from_canonical (canonical_of (payload_tree payload))
 

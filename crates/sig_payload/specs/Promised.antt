@@ -36,11 +36,11 @@ promised_text p =
 
 -- ---- who signed it
 
--- there is a key of the payload's log, of which this holds
+-- there is a key of the payload's log, and this holds of it
 abbrev pub OfKey : Keys → Payload → (CosignVerificationKey → Type 0) → Type 0
 OfKey keys p P = (key : CosignVerificationKey) × ((text_lookup p.log_id keys ≡ Some key) × P key)
 
--- the signature is the base64 of bytes, of which this holds
+-- the signature is the base64 of bytes, and this holds of them
 abbrev pub OfSignature : Bundle → (List ℕ → Type 0) → Type 0
 OfSignature b P = (bytes : List ℕ) × ((text_bytes b.signed_entry_timestamp ≡ Some bytes) × P bytes)
 
@@ -66,7 +66,7 @@ IsPromiseFault spki keys b other = ⊥
 
 -- ---- of a text
 
--- of what a text is read as, this is the bundle that the log promised
+-- this is the bundle that a text is read as, and that the log promised
 abbrev pub IsPromisedBy : {A : Type 0} → (A → Bundle) → Result A JsonError → AcceptsSpki → Keys → A → Type 0
 IsPromisedBy bundle read spki keys x = (read ≡ Ok x) × IsPromised spki keys (bundle x)
 

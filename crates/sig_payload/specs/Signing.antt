@@ -1,4 +1,4 @@
--- *Simple signing*: the payload that `cosign` signs of a container image, and the text of which it is read (simple
+-- *Simple signing*: the payload that `cosign` signs of a container image, and the text that it is read from (simple
 -- signing format, containers/image).
 use Rattle.std.specs.Prelude.{ℕ, ℤ, List, [], ◌∷◌, codes, Option, Some, None, option_map}
 use Rattle.std.specs.Result.{result_ok}
@@ -74,7 +74,7 @@ signing_in d = do
   beside ← optional_in_payload d
   Some (record { critical = critical; optional = beside })
 
--- the payload that bytes are, none where they are not a document without floats or a member is not as it has to be
+-- the payload that bytes are, `None` if they are not a document without floats or a member is not as it has to be
 unfoldable pub signing_of : List ℕ → Option Signing
 signing_of bytes = result_ok (record_in signing_in bytes)
 
@@ -83,7 +83,7 @@ signing_of bytes = result_ok (record_in signing_in bytes)
 abbrev pub cosign_type : List ℕ
 cosign_type = codes "cosign container image signature"
 
--- of an image with this reference and this digest of its manifest, of this type, without annotations
+-- the payload of this type for an image with this reference and this digest of its manifest, without annotations
 abbrev pub signing_about : List ℕ → List ℕ → List ℕ → Signing
 signing_about type_name reference digest = record {
   critical = record {

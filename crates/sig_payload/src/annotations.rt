@@ -12,7 +12,7 @@ use sig_json::Json;
 
 impl Optional {
     /// Whether the signer's annotations have each of these, with the same value: a text that is the same, or a number
-    /// or a truth value that is written so. False without annotations of the signer, whatever is asked.
+    /// or a truth value of that spelling. False without annotations of the signer, whatever is required.
     pub fn satisfies_annotations(&self, annotations: &TextMap) -> bool
         ensures { result ≡ optional_satisfies (seen_optional self.now) annotations.now }
     {
@@ -47,7 +47,7 @@ fn are_annotated(extra: Json<'_, '_>, annotations: &TextMap) -> bool
     true
 }
 
-/// Whether the member of this name is there and is written so.
+/// Whether the member of this name is there with this text or spelling.
 fn is_annotated(extra: Json<'_, '_>, name: &str, text: &str) -> bool
     ensures { result ≡ is_annotated (tree extra.entry) (name.now, text.now) }
 {
@@ -78,7 +78,7 @@ fn is_said(value: Json<'_, '_>, text: &str) -> bool
 
 impl SimpleSigning {
     /// Whether the payload has each of these annotations, as [`Optional::satisfies_annotations`] says. True if none is
-    /// asked for; false if there are some and the payload has none.
+    /// required; false if some are required and the payload has none.
     #[tactic(auto, unfolding(crate::specs::Annotations::satisfies))]
     pub fn satisfies_annotations(&self, annotations: &TextMap) -> bool
         ensures { result ≡ satisfies (seen_signing self.now) annotations.now }

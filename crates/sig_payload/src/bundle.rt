@@ -54,14 +54,14 @@ pub struct SignedArtifactBundle {
 
 impl Bundle {
     /// Reads what Rekor promised, and checks that the log of its id signed it. Whether it promised anything of a
-    /// certain signature is not asked: the body is not read.
+    /// certain signature is not checked: the body is not read.
     ///
     /// Errors, the first that applies:
     /// - `UnexpectedError` of `BundleUnreadable`: the text is not a JSON document without floats, an object of the text
     ///   `SignedEntryTimestamp` and the object `Payload` of the texts `body` and `logID` and of the numbers
     ///   `integratedTime` and `logIndex` from -2^63 to 2^63 - 1; other members are ignored;
-    /// - `UnexpectedError` of `PromiseInteger`: one of the two numbers is beyond plus or minus 2^53 - 1;
-    /// - `RekorPublicKeyNotFoundError` with the payload's log id: there is no key of it;
+    /// - `UnexpectedError` of `PromiseInteger`: one of the two numbers is outside plus or minus 2^53 - 1;
+    /// - `RekorPublicKeyNotFoundError` with the payload's log id: there is no key of this id;
     /// - `Base64DecodeError`: the signature is not base64, as [`sig_key::Signature::decode_bytes`] says;
     /// - `PublicKeyVerificationError`: the checker does not accept it over the canonical JSON (RFC 8785) of the
     ///   payload's four members;
@@ -76,7 +76,7 @@ impl Bundle {
         ensures found { IfOk result (IsPromisedBundle (C.spki_accepts checker.now) rekor_pub_keys.now raw.now) }
         ensures only { (bundle : bundle_type) → IsPromisedBundle (C.spki_accepts checker.now) rekor_pub_keys.now raw.now bundle
             → UnlessMemory Memory result (result ≡ Ok bundle) }
-        // An error comes if and only if the rules before its own hold, and its own does not.
+        // An error comes if and only if the rules before its own hold, and its own does not hold.
         ensures err { IfErr result (λ e. OrMemory Memory e
             (IsBundleFault (C.spki_accepts checker.now) rekor_pub_keys.now raw.now e)) }
         ensures refused { (e : refusal_type) → IsBundleFault (C.spki_accepts checker.now) rekor_pub_keys.now raw.now e
@@ -111,7 +111,7 @@ fn verified_bundle<C: SignatureChecker>(
 
 impl SignedArtifactBundle {
     /// Reads a signature with what Rekor promised of it, and checks that the log signed the promise, as
-    /// [`Bundle::new_verified`]. Neither the signature nor the certificate is looked at.
+    /// [`Bundle::new_verified`]. It reads neither the signature nor the certificate.
     ///
     /// Errors, the first that applies:
     /// - `UnexpectedError` of `BundleUnreadable`: the text is not a JSON document without floats, an object of the
@@ -127,7 +127,7 @@ impl SignedArtifactBundle {
         ensures found { IfOk result (IsPromisedArtifact (C.spki_accepts checker.now) rekor_pub_keys.now raw.now) }
         ensures only { (bundle : artifact_type) → IsPromisedArtifact (C.spki_accepts checker.now) rekor_pub_keys.now raw.now bundle
             → UnlessMemory Memory result (result ≡ Ok bundle) }
-        // An error comes if and only if the rules before its own hold, and its own does not.
+        // An error comes if and only if the rules before its own hold, and its own does not hold.
         ensures err { IfErr result (λ e. OrMemory Memory e
             (IsArtifactFault (C.spki_accepts checker.now) rekor_pub_keys.now raw.now e)) }
         ensures refused { (e : refusal_type) → IsArtifactFault (C.spki_accepts checker.now) rekor_pub_keys.now raw.now e

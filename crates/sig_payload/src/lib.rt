@@ -14,7 +14,7 @@
 //! The layer above uses three facts. A text is read as the payload, or as what Rekor promised, that its members are, if
 //! and only if they fit the table of the format. A payload has the annotations that are asked for if and only if each
 //! is a member with that value. What Rekor promised is returned if and only if the log of its id signed it, and else
-//! the first rule that is broken is told.
+//! the first broken rule is the error.
 #![tactic(auto)]
 
 mod annotations;

@@ -1,4 +1,4 @@
-//! Whether a log signed what it is said to have promised.
+//! Whether a log signed its claimed promise.
 ghost use Rattle.std.specs.Prelude.{◌≡◌, IfOk};
 ghost use Rattle.sig_base.specs.Answers.{Answers};
 ghost use Rattle.sig_base.specs.declared.error.SigstoreError.TheVariants.{OutOfMemory as Memory};
@@ -13,8 +13,8 @@ use sig_key::{CosignVerificationKey, Signature, VerificationKeys};
 use std::alloc::Global;
 
 /// Checks that the log of the payload's id signed the payload. Errors, the first that applies:
-/// - `UnexpectedError` of `PromiseInteger`: an integer is beyond plus or minus 2^53 - 1;
-/// - `RekorPublicKeyNotFoundError` with the payload's log id: there is no key of it;
+/// - `UnexpectedError` of `PromiseInteger`: an integer is outside plus or minus 2^53 - 1;
+/// - `RekorPublicKeyNotFoundError` with the payload's log id: there is no key of this id;
 /// - `Base64DecodeError`: the signature is not base64;
 /// - `PublicKeyVerificationError`: the checker does not accept it over the payload's canonical JSON;
 /// - `OutOfMemory`.

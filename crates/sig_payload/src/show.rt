@@ -207,7 +207,7 @@ fn write_scalar<W: fmt::Write>(f: &mut fmt::Formatter<W>, value: Json<'_, '_>) -
     }
 }
 
-/// Ends a list or an object. If nothing is in it, it stands on its line, as `{}`.
+/// Ends a list or an object. An empty one is written on the same line, as `{}`.
 fn write_end<W: fmt::Write>(
     f: &mut fmt::Formatter<W>,
     before: char,

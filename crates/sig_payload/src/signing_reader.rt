@@ -71,11 +71,11 @@ impl ElementReader for CriticalReader {
     }
 }
 
-/// Returns the payload that the bytes of a layer are. Fails with `UnexpectedError` of `LayerUnreadable` if and only if they are
-/// no JSON document without floats, or a member is not as it has to be: `critical` an object of the objects `identity`,
-/// with the text `docker-reference`, and `image`, with the text `docker-manifest-digest`, and of the text `type`;
-/// `optional` an object or absent, in it `creator` a text and `timestamp` a number from -2^63 to 2^63 - 1, or absent.
-/// Null means absent; other members are annotations in `optional`, and are ignored elsewhere.
+/// Returns the payload that the bytes of a layer are. Fails with `UnexpectedError` of `LayerUnreadable` if and only if
+/// they are not a JSON document without floats, or a member is not as it has to be: `critical` an object of the objects
+/// `identity`, with the text `docker-reference`, and `image`, with the text `docker-manifest-digest`, and of the text
+/// `type`; `optional` an object or absent, in it `creator` a text and `timestamp` a number from -2^63 to 2^63 - 1, or
+/// absent. Null means absent; other members are annotations in `optional`, and are ignored elsewhere.
 #[tactic(auto, unfolding(crate::specs::Signing::signing_of))]
 pub fn read_signing(alloc: Global, bytes: &[u8]) -> sig_base::Result<SimpleSigning>
     ensures { Answers Memory seen_signing result (ok_or (signing_of bytes.now) (UnexpectedError LayerUnreadable)) }
@@ -110,7 +110,7 @@ fn read_document(alloc: Global, payload: BorrowedDocument<'_>) -> Result<SimpleS
     Ok(SimpleSigning { critical, optional })
 }
 
-/// The same of a payload that is an object. It is moved out of the payload.
+/// The same for a payload that is an object. It is moved out of the payload.
 #[tactic(auto, using(crate::proofs::Extras::moved))]
 fn take_optional(
     alloc: Global,

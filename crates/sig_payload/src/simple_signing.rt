@@ -18,12 +18,12 @@ use std::alloc::Global;
 /// The type of the payloads that `cosign` signs.
 pub const CRITICAL_TYPE_NAME: &str = "cosign container image signature";
 
-/// A payload: what is signed of an image, and what the signer says beside it.
+/// A payload: what is signed about an image, and what the signer adds.
 #[derive(Drop)]
 pub struct SimpleSigning {
     /// What a verifier has to look at.
     pub critical: Critical,
-    /// What the signer says beside it; `None` if it is absent or null.
+    /// What the signer adds; `None` if it is absent or null.
     pub optional: Option<Optional>,
 }
 
@@ -34,7 +34,7 @@ pub struct Critical {
     pub identity: Identity,
     /// Which image was signed.
     pub image: Image,
-    /// The member `type`: which kind of payload it is. Whether it is [`CRITICAL_TYPE_NAME`] is not asked.
+    /// The member `type`: which kind of payload it is. It need not be [`CRITICAL_TYPE_NAME`].
     pub type_name: Text,
 }
 

@@ -1,5 +1,5 @@
 -- *Client configuration*: what a client of Sigstore is configured with (Sigstore trust root format,
--- ClientTrustConfig). Of its members the trusted root alone is read.
+-- ClientTrustConfig). Only its trusted root is read.
 use Rattle.std.specs.Prelude.{◌≡◌, ◌⊎◌, ℕ, List, codes, Option, Some, None, Result, Ok, Err}
 use Rattle.sig_base.specs.declared.error.SigstoreError.{SigstoreError}
 use Rattle.sig_base.specs.declared.error.SigstoreError.TheVariants.{SigstorePKIFileMalformedError}

@@ -72,7 +72,7 @@ put_key (Some key) keys = text_put key.0 key.1 keys
 abbrev pub put_instance : ℤ → TransparencyLogInstance → List (List ℕ × List ℕ) → List (List ℕ × List ℕ)
 put_instance now instance keys = put_key (key_at now instance) keys
 
--- one instance after another, so that of equal log ids the last one counts
+-- one instance after another, so that the last one of equal log ids counts
 abbrev pub put_instances : ℤ → List TransparencyLogInstance → List (List ℕ × List ℕ) → List (List ℕ × List ℕ)
 put_instances now [] keys = keys
 put_instances now (instance ∷ instances) keys = put_instances now instances (put_instance now instance keys)

@@ -47,7 +47,7 @@ GivesAt now instances index id key =
     (instance : TransparencyLogInstance) × (slice_get instances index ≡ Some instance)
     × (key_at now instance ≡ Some (id, key))
 
--- an instance gives this key for this log id, and none after it gives a key for it
+-- an instance gives this key for this log id, and no instance after it gives a key for it
 pub record IsLastKey (now : ℤ) (instances : List TransparencyLogInstance) (id key : List ℕ) : Type 0 where
   pub index : ℕ
   pub gives : GivesAt now instances index id key

@@ -58,11 +58,11 @@ trusted_root_of d = do
   ctlogs ← optional_list instance_of (codes "ctlogs") d
   Some (record { certificate_authorities = certificate_authorities; tlogs = tlogs; ctlogs = ctlogs })
 
--- the trusted root of a text, or why it is none
+-- the trusted root that a text is, or why it is not one
 abbrev pub trusted_root_in : List ℕ → Result TrustedRoot JsonError
 trusted_root_in = record_in trusted_root_of
 
--- the same, where it is not told why
+-- the same without the reason
 abbrev pub or_unreadable : Result TrustedRoot JsonError → Result TrustedRoot SigstoreError
 or_unreadable (Ok root) = Ok root
 or_unreadable (Err why) = Err SerdeJsonError

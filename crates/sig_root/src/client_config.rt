@@ -18,7 +18,7 @@ use sig_base::{PkiFault, Result, SigstoreError};
 use sig_json::{ElementReader, Json, JsonError, MemberError, optional, read_record_with};
 use std::alloc::Global;
 
-/// The name of the member that is read. No tree is made of any other.
+/// The name of the member that is read. No tree is made of other members.
 const MEMBERS: [&str; 1] = ["trustedRoot"];
 
 /// Reads the trusted roots of configurations.

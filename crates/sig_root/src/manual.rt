@@ -1,4 +1,4 @@
-//! `ManualTrustRoot`: what is trusted, as it is handed in.
+//! `ManualTrustRoot`: what is trusted, as a caller gives it.
 ghost use Rattle.std.specs.Prelude.{Ok};
 
 use crate::trust_root::TrustRoot;

@@ -3,7 +3,7 @@
 use crate::sparse::{SparseAuthority, SparseInstance};
 use sig_base::{Bytes, Entries, OwnedList};
 
-/// The authorities and logs that are trusted. Nothing is checked beyond the kinds of the members.
+/// The authorities and logs that are trusted. Only the kinds of the members are checked.
 #[derive(Drop)]
 pub struct TrustedRoot {
     /// Those that issue certificates.
@@ -44,7 +44,7 @@ pub struct PublicKey {
 /// A range of time, in whole seconds since 1970, both ends included.
 #[derive(Clone, Copy, Drop)]
 pub struct TimeRange {
-    /// The first second; without it the range has neither a first nor a last.
+    /// The first second; without it the range has no first and no last second.
     pub start: Option<i64>,
     /// The last second.
     pub end: Option<i64>,

@@ -13,12 +13,12 @@ use Rattle.sig_witness.specs.declared.kept_log.KeptLog.{KeptLog}
 use Rattle.sig_witness.specs.KeptLogs.{last_of}
 use Rattle.sig_witness.specs.Updates.{Update, origin_of, most_heads}
 
--- whether there is room after so many heads, once the proof was accepted
+-- whether there is room after this number of heads, once the proof was accepted
 abbrev pub room_answer : ℕ → Result (Unit {0}) MerkleProofError → Result (Unit {0}) WitnessError
 room_answer heads (Ok _) = if nat_lt heads most_heads then Ok tt else Err Full
 room_answer heads (Err cause) = Err (Consistency cause)
 
--- by the kept head; no chain is empty
+-- the result by the kept head; no chain is empty
 abbrev pub head_answer : ℕ → Update → Option ChainHead → Result (Unit {0}) WitnessError
 head_answer heads update None = Ok tt
 head_answer heads update (Some last) =
@@ -30,7 +30,7 @@ head_answer heads update (Some last) =
 abbrev pub chain_answer : List ChainHead → Update → Result (Unit {0}) WitnessError
 chain_answer chain update = head_answer (length chain) update (last_of chain)
 
--- by the log, which is kept at the origin
+-- the result by the log that is kept at the origin
 unfoldable pub log_answer : (List ℕ → List ℕ → Bool) → KeptLog → Update → Result (Unit {0}) WitnessError
 log_answer accepts log update =
     if has_accepted_signature accepts update.checkpoint then chain_answer log.chain update else Err NoteKey

@@ -21,7 +21,7 @@ abbrev pub IsUngrown : ChainHead → Update → MerkleProofError → Type 0
 IsUngrown last update cause =
     IsConsistencyAnswer last.size update.checkpoint.note.size update.hashes last.hash update.checkpoint.note.hash (Err cause)
 
--- an update from the kept head of a chain of so many heads fails: the old size is another; else its proof does not lead
+-- an update from the kept head of a chain of this length fails: the old size is another; else its proof does not lead
 -- from that head; else the chain is full
 abbrev pub IsHeadFault : ℕ → ChainHead → Update → WitnessError → Type 0
 IsHeadFault heads last update e =
@@ -29,14 +29,14 @@ IsHeadFault heads last update e =
     ⊎ ((last.size ≡ update.old_size) × ((cause : MerkleProofError) × IsUngrown last update cause × (e ≡ Consistency cause)))
     ⊎ ((last.size ≡ update.old_size) × HasGrownFrom last (new_head update) × (heads ≡ most_heads) × (e ≡ Full))
 
--- an update of a log fails: no signature is the log's; else by its kept head
+-- an update of a log fails: no signature is the log's; else the fault is by its kept head
 abbrev pub IsLogFault : (List ℕ → List ℕ → Bool) → KeptLog → Update → WitnessError → Type 0
 IsLogFault accepts log update e =
     (¬ IsSigned accepts update.checkpoint × (e ≡ NoteKey))
     ⊎ (IsSigned accepts update.checkpoint
     × ((last : ChainHead) × IsLast log.chain last × IsHeadFault (length log.chain) last update e))
 
--- *Fault of an update*: its origin is not there; or by the log of its origin
+-- *Fault of an update*: its origin is not there; or it is the fault by the log of its origin
 abbrev pub IsUpdateFault : (VerifyScheme → List ℕ → List ℕ → List ℕ → Bool) → List (List ℕ × KeptLog) → Update
     → WitnessError → Type 0
 IsUpdateFault accepts logs update e =
@@ -50,7 +50,7 @@ abbrev pub IsUpdateAnswer : (VerifyScheme → List ℕ → List ℕ → List ℕ
 IsUpdateAnswer accepts logs update (Ok _) = (log : KeptLog) × IsTaken accepts logs update log
 IsUpdateAnswer accepts logs update (Err e) = IsUpdateFault accepts logs update e
 
--- the result of adding an origin: it is a line that is not there; or it is not a line; or it is there
+-- the result of adding an origin: the origin is a line that is not there; or it is not a line; or it is there already
 abbrev pub IsAddAnswer : List (List ℕ × KeptLog) → List ℕ → Result (Unit {0}) WitnessError → Type 0
 IsAddAnswer logs origin (Ok _) = IsOriginText origin × (text_lookup origin logs ≡ None)
 IsAddAnswer logs origin (Err e) =

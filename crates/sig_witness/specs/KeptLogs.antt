@@ -31,7 +31,7 @@ pub record IsKeptChain (chain : List ChainHead) : Type 0 where
 abbrev pub IsKeptLog : List ℕ × KeptLog → Type 0
 IsKeptLog entry = IsOriginText entry.0 × IsKeptChain entry.1.chain
 
--- *Kept logs*: of origins in byte order, each once, with the chained heads of each
+-- *Kept logs*: origins in byte order, each once, with the chained heads of each
 pub record AreKept (logs : List (List ℕ × KeptLog)) : Type 0 where
   pub ordered : KeysAscend logs
   pub kept : AllByRecursion IsKeptLog logs

@@ -1,4 +1,4 @@
--- *Causes of a state's errors*: each by the first condition that does not hold, of the origins in order.
+-- *Causes of a state's errors*: each by the first condition of the origins, in order, that does not hold.
 use Rattle.std.specs.Prelude.{◌≡◌, ◌≢◌, ◌⊎◌, ℕ, ◌<◌, ◌^◌, List, [], ◌∷◌, length, decimal, Some, Result, Ok, Err}
 use Rattle.std.specs.Cmp.Lexicographic.{slice_cmp}
 use Rattle.std.specs.List.{AllByRecursion}
@@ -55,7 +55,7 @@ IsHashLine line = (hash : List ℕ) × (base64_bytes line ≡ Some hash) × (len
 abbrev pub HasHash : LogLines → Type 0
 HasHash lines = IsHashLine lines.hash
 
--- where the size is 0, they are the root of no entries
+-- if the size is 0, they are the root of no entries
 abbrev pub HasRoot : LogLines → Type 0
 HasRoot lines = lines.size ≡ decimal 0 → base64_bytes lines.hash ≡ Some (sha256 [])
 
@@ -84,7 +84,7 @@ IsFirstFault before [] e = ⊥
 IsFirstFault before (lines ∷ later) e =
     IsLinesFault before lines e ⊎ (AreSound before lines × IsFirstFault lines.origin later e)
 
--- *Fault of a state*: the text is not lines in fives; or the first fault of its lines
+-- *Fault of a state*: the text is not a list of five lines each; or the first fault of its lines
 abbrev pub IsStateFault : List ℕ → StateError → Type 0
 IsStateFault text e =
     (((all : List LogLines) → ¬ AreLinesOf text all) × (e ≡ Lines))

@@ -83,7 +83,7 @@ pub record IsCutLog (log : KeptLog) : Type 0 where
 abbrev pub IsCutEntry : List ℕ × KeptLog → Type 0
 IsCutEntry entry = IsOriginText entry.0 × IsCutLog entry.1
 
--- the text is that of these logs, of which each has one head
+-- the text is that of these logs, each of which has one head
 pub record IsStateOf (text : List ℕ) (logs : List (List ℕ × KeptLog)) : Type 0 where
   pub written : text ≡ state_text logs
   pub ordered : KeysAscend logs

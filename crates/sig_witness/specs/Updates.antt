@@ -10,7 +10,7 @@ use Rattle.sig_audit.specs.Fronts.{IsLast}
 use Rattle.sig_audit.specs.declared.chain.ChainHead.{ChainHead}
 use Rattle.sig_witness.specs.declared.kept_log.KeptLog.{KeptLog}
 
--- how many heads are kept of a log at most
+-- the greatest number of heads that are kept of a log
 abbrev pub most_heads : ℕ
 most_heads = 4096
 
@@ -39,8 +39,9 @@ new_head update = head_of update.checkpoint update.hashes
 abbrev pub grown_log : KeptLog → ChainHead → KeptLog
 grown_log log head = record { key = log.key; chain = log.chain ++ head ∷ [] }
 
--- the five conditions under which an update is taken: this log is kept at its origin, the log signed it, the old size is
--- that of the kept head, the hashes show that the new tree grew from the kept head's, and there is room for one more
+-- the five conditions under which an update is taken: this log is kept at its origin, the log signed it, the old size
+-- is that of the kept head, the hashes show that the new tree grew from the kept head's, and there is
+-- room for one more
 pub record IsTaken (accepts : VerifyScheme → List ℕ → List ℕ → List ℕ → Bool) (logs : List (List ℕ × KeptLog))
     (update : Update) (log : KeptLog) : Type 0 where
   pub kept : text_lookup (origin_of update) logs ≡ Some log
@@ -51,7 +52,8 @@ pub record IsTaken (accepts : VerifyScheme → List ℕ → List ℕ → List �
   pub grown : HasGrownFrom last (new_head update)
   pub room : length log.chain < most_heads
 
--- one step: the head is added to the chain of its origin if the update is taken, and all else stays; else nothing changes
+-- one step: the head is added to the chain of its origin if the update is taken, and all else stays; else nothing
+-- changes
 abbrev pub IsStep : (VerifyScheme → List ℕ → List ℕ → List ℕ → Bool) → List (List ℕ × KeptLog) → Update
     → List (List ℕ × KeptLog) → Type 0
 IsStep accepts logs update after =

@@ -23,7 +23,7 @@ impl Witness {
     /// - `Key`: the third is not base64;
     /// - `Size`: the fourth is not a number below 2^64 in decimal without leading zeros;
     /// - `Hash`: the fifth is not 32 bytes in base64;
-    /// - `Root`: the size is 0, and they are not the root of no entries;
+    /// - `Root`: the size is 0, and the hash is not the root of no entries;
     ///
     /// or `OutOfMemory`. The key of an RSA scheme is of any size: it is not in the text.
     pub fn decode(alloc: Global, text: &str) -> Result<Witness, StateError>

@@ -20,9 +20,9 @@ use sig_base::{OutOfMemory, Text};
 use std::alloc::Global;
 
 impl Witness {
-    /// Writes for each origin in byte order five lines: the origin, the name of the key's scheme, the key in base64, and
-    /// of the kept head the size in decimal and the root hash in base64. [`Witness::decode`] reads the same witness with
-    /// each chain cut to its last head, without that head's hashes. Fails only if out of memory.
+    /// Writes for each origin in byte order five lines: the origin, the name of the key's scheme, the key in base64,
+    /// and the size of the kept head in decimal and its root hash in base64. [`Witness::decode`] reads the same witness
+    /// with each chain cut to its last head, without that head's hashes. Fails only if out of memory.
     #[tactic(auto, using(crate::proofs::StateWrites::writing))]
     pub fn encode(&self, alloc: Global) -> Result<Text, OutOfMemory>
         ensures text { IfOk result (λ text. text ≡ state_text self.now) }

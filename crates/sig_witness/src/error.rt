@@ -23,7 +23,7 @@ pub enum WitnessError {
     /// The hashes do not show that the new tree has that of the kept head as its first leaves.
     #[error("Consistency")]
     Consistency(MerkleProofError),
-    /// As many heads are kept of the log as there may be.
+    /// The log has as many kept heads as there may be.
     #[error("Full")]
     Full,
     /// Out of memory.

@@ -16,7 +16,7 @@ use sig_merkle::uncounted;
 use sig_rekor::SignedCheckpoint;
 use std::alloc::Global;
 
-/// How many heads are kept of a log at most.
+/// The greatest number of heads that are kept of a log.
 pub const MOST_HEADS: usize = 4096;
 
 /// Checks that a checkpoint can be the next head of a log.

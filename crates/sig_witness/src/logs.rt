@@ -58,7 +58,7 @@ impl Logs {
         self.logs.len()
     }
 
-    /// What is kept at an origin; none where the origin is not there.
+    /// Returns what is kept at an origin, or `None` if the origin is not there.
     #[tactic(auto, using(sig_base::proofs::Texts::text_maps))]
     pub fn get(&self, origin: &str) -> Option<&KeptLog>
         ensures { option_copied result ≡ text_lookup origin.now self.now }

@@ -2,7 +2,7 @@
 use sig_base::OutOfMemory;
 use thiserror::Error;
 
-/// Why a text is not a state of a witness: the first fault, of its origins in order.
+/// Why a text is not a state of a witness: the first fault of its origins, in order.
 #[derive(Clone, Copy, Debug, PartialEq, Eq, Error)]
 pub enum StateError {
     /// The text is not lines in fives, each ended by a newline.

@@ -27,7 +27,7 @@ use sig_rekor::SignedCheckpoint;
 use std::alloc::Global;
 use std::marker::Model;
 
-/// Of each origin the key of its log and the tree heads that were taken, from the oldest to the latest. Contracts see
+/// The key of each origin's log, and the tree heads that were taken, from the oldest to the latest. Contracts see
 /// the list of its entries, each origin once, in byte order of the origins.
 #[derive(Drop)]
 pub struct Witness {
@@ -48,7 +48,7 @@ impl Model for Witness {
 }
 
 impl Witness {
-    /// A witness of no origins. It takes no memory.
+    /// Returns a witness without origins. It takes no memory.
     pub fn new(alloc: Global) -> Witness
         ensures { result ≡ [] }
     {
@@ -175,9 +175,9 @@ impl Witness {
     }
 
     /// Returns two different byte strings of equal SHA-256 that the heads of an origin and their proofs exhibit, if the
-    /// hash of one of the heads is not the root of the list's first entries, as many as its size; `None` if and only if
-    /// each is. The origin is there, and its kept head has the size and the root of the list. Fails only if out of
-    /// memory.
+    /// hash of one of the heads is not the root of the list's first entries, whose number is its size; `None` if and
+    /// only if each is. The origin is there, and its kept head has the size and the root of the list. Fails only if out
+    /// of memory.
     pub fn witness_collision(
         &self,
         alloc: Global,

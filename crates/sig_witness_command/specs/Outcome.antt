@@ -39,7 +39,7 @@ module _ (accepts : VerifyScheme → List ℕ → List ℕ → List ℕ → Bool
     pub is : IsUpdate text update
     pub fault : IsUpdateFault accepts logs update e
 
-  -- what becomes of an update of these logs
+  -- the outcome of an update of these logs
   abbrev pub IsOutcome : Outcome → Type 0
   IsOutcome (Accepted size) = IsAccepted size
   IsOutcome Checkpoint = ¬ HasReading text

@@ -32,7 +32,7 @@ signature_row key checkpoint signature = key_row key (note_text checkpoint.note)
 abbrev pub note_rows : CosignVerificationKey → SignedCheckpoint → List AcceptedRow
 note_rows key checkpoint = map (signature_row key checkpoint) checkpoint.signatures
 
--- the same under the key of its origin; none where that is not kept
+-- the same under the key of its origin; nothing if that is not kept
 abbrev pub rows_under : Option CosignVerificationKey → SignedCheckpoint → List AcceptedRow
 rows_under None checkpoint = []
 rows_under (Some key) checkpoint = note_rows key checkpoint
@@ -86,8 +86,8 @@ pub record HasNoRoom (text : List ℕ) : Type 0 where
 abbrev pub IsUnasked : List ℕ → Type 0
 IsUnasked text = IsUnread text ⊎ HasNoRoom text
 
--- The reply of `questions witness`: the list of the signatures, which is read back as them, with status 0 if and only if
--- the text is a request that starts from some logs and the list fits beside it; else `refused request`.
+-- The reply of `questions witness`: the list of the signatures, which is read back as them, with status 0 if and only
+-- if the text is a request that starts from some logs and the list fits beside it; else `refused request`.
 pub record IsWitnessQuestionsReply (text : List ℕ) (reply : Reply) : Type 0 where
   pub decided : HasQuestions text ⊎ IsUnasked text
   pub succeeds : (reply.status ≡ 0) ↔ HasQuestions text

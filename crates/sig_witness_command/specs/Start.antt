@@ -47,7 +47,7 @@ pub record IsStart (request : WitnessRequest) (start : Logs) : Type 0 where
   pub state : IsStateOf request.state kept
   pub added : AreAdded kept request.origins start
 
--- there are none: its state is not the state of a witness; or it is, and an origin cannot be added
+-- no logs: the state is not that of a witness; or it is, and an origin cannot be added
 abbrev pub HasNoStart : WitnessRequest → Type 0
 HasNoStart request =
     ((e : StateError) × IsStateFault request.state e)

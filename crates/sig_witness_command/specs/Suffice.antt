@@ -24,7 +24,7 @@ witness_with_accepted request rows = record {
   accepted = rows;
 }
 
--- the request's accepted signatures and these have the same of those that the updates ask for, also where no list was
+-- the request's accepted signatures and these agree on those that the updates ask for, also where no list was
 -- written
 abbrev pub AgreeOnNotes : WitnessRequest → List AcceptedRow → Type 0
 AgreeOnNotes request rows =
@@ -46,7 +46,7 @@ abbrev pub AreDifferent : List AcceptedRow → Type 0
 AreDifferent [] = Unit {0}
 AreDifferent (row ∷ later) = (¬ Contains later row) × AreDifferent later
 
--- Each signature of an update under the key of its origin is listed, and no other, and none twice.
+-- Each signature of an update under the key of its origin is listed once, and no other is.
 abbrev pub WitnessRowsAreEachOnce : Type 0
 WitnessRowsAreEachOnce =
     (start : Logs) (updates : List Update)

@@ -15,7 +15,7 @@ use Rattle.sig_witness_command.specs.declared.request.UpdateText.{UpdateText}
 abbrev pub takes : List AcceptedRow → VerifyScheme → List ℕ → List ℕ → List ℕ → Bool
 takes rows scheme key message signature = accepted rows Message (name_of scheme) key message signature
 
--- the updates whose texts are checkpoints, in order; the others are none
+-- the updates whose texts are checkpoints, in order; the others are left out
 abbrev pub AreUpdates : List UpdateText → List Update → Type 0
 AreUpdates [] updates = updates ≡ []
 AreUpdates (text ∷ later) updates =

@@ -13,8 +13,8 @@
 //!
 //! The layer above uses three facts. [`witness_reply`] makes the reply that is defined: a line for each update, and the
 //! state that *Witness run* makes of the one that the request gives; `refused request` if and only if the text is not a
-//! request, its state is none, or an origin cannot be added. [`witness_questions`] lists the signatures that it can rest
-//! on. And nothing but these matters.
+//! request, its state is not one, or an origin cannot be added. [`witness_questions`] lists the signatures that it can
+//! rest on. And nothing but these matters.
 #![tactic(auto)]
 
 pub mod laws;

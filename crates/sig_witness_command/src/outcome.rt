@@ -23,11 +23,11 @@ pub enum Outcome {
     Origin,
     /// No signature of the checkpoint is the log's.
     NoteKey,
-    /// The old size is not that of the kept head, which this is.
+    /// The old size is not this, the size of the kept head.
     OldSize(u64),
     /// The hashes do not lead from the kept head to the new one.
     Consistency,
-    /// As many heads are kept of the log as there may be.
+    /// The log has as many kept heads as there may be.
     Full,
 }
 

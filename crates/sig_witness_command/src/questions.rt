@@ -15,14 +15,15 @@ use sig_reply::{Reply, room_beside};
 use sig_witness::Witness;
 use std::alloc::Global;
 
-/// Returns the reply to a request's text: the list of the signatures that `witness` asks for, of each update whose text
-/// is a checkpoint each signature over its note under the key of its origin, where that is kept, and each signature once,
-/// in the order in which they come first, with status 0; else `refused request`, if the text is not a request that `witness`
-/// replies to, or text, list and `,"accepted":` would have more than 2^24 bytes together. Which signatures the request
-/// itself accepts does not matter. Fails only if out of memory.
+/// Returns the reply to a request's text: the list of the signatures that `witness` asks for, for each update whose
+/// text is a checkpoint each signature over its note under the key of its origin, where that is kept, and each
+/// signature once, in the order in which they come first, with status 0; else `refused request`, if the text is not a
+/// request that `witness` replies to, or text, list and `,"accepted":` would have more than 2^24 bytes together. Which
+/// signatures the request itself accepts does not matter. Fails only if out of memory.
 ///
-/// Of two requests that differ in their accepted signatures alone, and in none of those that are asked for, `witness`
-/// has the same reply, also where no list is written. And a list that is written fits one request with the request that it is of.
+/// For two requests that differ only in accepted signatures that are not asked for, `witness`
+/// has the same reply, also where no list is written. And a list that is written fits one request with the request that
+/// it is of.
 pub fn witness_questions(alloc: Global, request: &[u8]) -> Result<Reply, OutOfMemory>
     ensures reply { IfOk result (IsWitnessQuestionsReply request.now) }
     ensures suffice { WitnessQuestionsSuffice }

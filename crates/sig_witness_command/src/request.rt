@@ -29,7 +29,7 @@ use sig_json::{
 use sig_request::{MOST_BYTES, RowReader, SchemeReader};
 use std::alloc::Global;
 
-/// A request has at most so many updates.
+/// The greatest number of updates of a request.
 pub const MOST_UPDATES: usize = 4096;
 
 /// A log that a request adds to the state.

@@ -10,8 +10,8 @@ use sig_key::CosignVerificationKey;
 use sig_witness::{StateError, Witness, WitnessError};
 use std::alloc::Global;
 
-/// Returns the witness of a request's state, to which each origin was added in order; `None` if and only if the state is
-/// none, or an origin is not a line or is there already. Fails only if out of memory.
+/// Returns the witness of a request's state, to which each origin was added in order; `None` if and only if the state
+/// is not one, or an origin is not a line or is there already. Fails only if out of memory.
 pub fn start_of(alloc: Global, request: &WitnessRequest) -> Result<Option<Witness>, OutOfMemory>
     ensures { IfOk result (λ found. MatchOption found (HasNoStart request.now) (IsStart request.now)) }
 {

@@ -1,4 +1,4 @@
--- What the trusted root gives, at the time that was handed in.
+-- What the trusted root gives, at the given time.
 use Rattle.std.proofs.Common.{ℤ, Option, Some, refl, subst, sym}
 use Rattle.std.proofs.Math.Facts.{to_z-of_z}
 use Rattle.sig_explain_verify.specs.ShownRoot.{IsGivenAt, IsTrustIn}

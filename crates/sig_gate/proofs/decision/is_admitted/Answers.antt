@@ -1,4 +1,4 @@
--- No bundle is verified; or some is, and the rule decides.
+-- No bundle is verified; or at least one is, and the rule decides.
 use Rattle.std.proofs.Common.{◌≡◌, true, false, sym, ◌∙◌}
 use Rattle.std.specs.List.{list_any}
 use Rattle.sig_gate.proofs.Meanings.{none-admitted, some-admitted}

@@ -1,4 +1,4 @@
--- The different bodies are as many as the list of them has.
+-- The list of different bodies has as many elements as there are different bodies.
 use Rattle.std.proofs.Common.{ap, length}
 use Rattle.sig_gate.proofs.BodyCounts.{different-counted}
 use Rattle.sig_rekor.proofs.DedupedLists.{Raw}

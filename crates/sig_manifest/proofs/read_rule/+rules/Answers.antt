@@ -1,4 +1,4 @@
--- An item that is not a rule: then the list is none.
+-- An item that is not a rule: then the list is not one of rules.
 use Rattle.std.proofs.Common.{◌≡◌, None, arith}
 use Rattle.std.proofs.lemmas.Grind.{common_steps}
 use Rattle.sig_json.specs.Tree.{tree}
