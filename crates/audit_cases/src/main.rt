@@ -1,7 +1,7 @@
 //! Cases of sig_audit: audits of heads and watches, and what they are beside a list of entries; and of the roots of a
 //! list's first entries. `stdin` lists calls, and `stdout` what they return.
 //!
-//! Who made them: `tools/audit_cases.py`, a program in another language that makes trees and proofs by the recursions of
+//! Their origin: `tools/audit_cases.py`, a program in another language that makes trees and proofs by the recursions of
 //! RFC 6962 and judges heads and watches one at a time.
 #![tactic(auto)]
 

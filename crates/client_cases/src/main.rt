@@ -1,7 +1,7 @@
 //! Cases of what a client has of its own: the configuration that names its trusted root, the token that says who signs,
 //! and what it signed. `stdin` lists calls, and `stdout` what they return.
 //!
-//! Who made them: `tools/client_cases.py`, a program in another language that reads tokens by RFC 7515 and RFC 7519, and
+//! Their origin: `tools/client_cases.py`, a program in another language that reads tokens by RFC 7515 and RFC 7519, and
 //! log entries, bundles and trusted roots by the tables of their formats alone.
 #![tactic(auto)]
 

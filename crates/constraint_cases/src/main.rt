@@ -1,6 +1,7 @@
-//! Cases of a caller's constraints over the layers that `cosign` stores. `stdin` lists calls, and `stdout` what they return.
+//! Cases of a caller's constraints over the layers that `cosign` stores. `stdin` lists calls, and `stdout` what they
+//! return.
 //!
-//! Who made them: `tools/constraint_cases.py`, a program in another language that says what each constraint means by its
+//! Their origin: `tools/constraint_cases.py`, a program in another language that says what each constraint means by its
 //! words alone.
 #![tactic(auto)]
 

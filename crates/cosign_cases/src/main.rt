@@ -1,6 +1,6 @@
 //! Cases of what `cosign` stores beside a container image. `stdin` lists calls, and `stdout` what they return.
 //!
-//! Who made them: `tools/cosign_cases.py`, a program in another language that reads payloads and what Rekor promised by
+//! Their origin: `tools/cosign_cases.py`, a program in another language that reads payloads and what Rekor promised by
 //! the tables of their formats alone.
 #![tactic(auto)]
 

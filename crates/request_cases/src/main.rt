@@ -1,9 +1,9 @@
 //! Cases of requests: of the signatures that are in a request of `verify`, and of what is wrong with requests. `stdin`
 //! lists calls, and `stdout` what they return.
 //!
-//! Who made them: `tools/request_cases.py` over `tools/fixture.py` and `tools/request_fault.py`, programs in another
-//! language that were written from the standards. Each call for a signature asks for one, of which the rows after it are
-//! said to be genuine: all of the request's rows, or all but one.
+//! Their origin: `tools/request_cases.py` over `tools/fixture.py` and `tools/request_fault.py`, programs in another
+//! language that were written from the standards. Each call for a signature asks for one, of which the rows after it
+//! are said to be genuine: all of the request's rows, or all but one.
 #![tactic(auto)]
 
 mod fault;

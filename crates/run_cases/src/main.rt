@@ -1,7 +1,7 @@
 //! Cases of `run` over memory, whose streams give and take pieces, and fail, and of the request of `demo`. `stdin`
 //! lists runs and requests, and `stdout` what comes of each.
 //!
-//! Who made them: `tools/run_cases.py`, a program in another language that counts reads and writes by the contract of
+//! Their origin: `tools/run_cases.py`, a program in another language that counts reads and writes by the contract of
 //! `run` alone, and `tools/demo_requests.py`, which makes the request of `demo` by RFC 6962. What is written for a
 //! request that is read whole is stated there; whole requests are in `examples/`.
 #![tactic(auto)]
@@ -46,8 +46,8 @@ fn ran(arguments: &mut Arguments<'_>, answer: &mut Answer) {
     }
 }
 
-/// `request COUNT`: the SHA-256 and the length of the request of `demo` for so many entries, and the status and the text
-/// of the reply of `log` to it.
+/// `request COUNT`: the SHA-256 and the length of the request of `demo` for so many entries, and the status and the
+/// text of the reply of `log` to it.
 fn requested(arguments: &mut Arguments<'_>, answer: &mut Answer) {
     let alloc = arguments.alloc();
     let count = arguments.natural();

@@ -25,7 +25,7 @@ AreHeads texts heads = AllZip IsHead texts heads
 abbrev pub HasReading : HeadText → Type 0
 HasReading text = (checkpoint : SignedCheckpoint) × IsCheckpoint text.checkpoint checkpoint
 
--- of the heads, the one at this index is the first whose text is not a checkpoint
+-- the head at this index is the first whose text is not a checkpoint
 abbrev pub IsFirstUnread : List HeadText → ℕ → Type 0
 IsFirstUnread texts place =
     AllByRecursion HasReading (take place texts)

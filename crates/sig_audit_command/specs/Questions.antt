@@ -46,7 +46,7 @@ pub record HasNoRoom (text : List ℕ) : Type 0 where
   pub is : IsReadAs text request heads
   pub past : ¬ FitsBeside text (audit_rows request heads)
 
--- the link is the first that does not hold of a text: as of `audit`, or the list has no room beside it
+-- the link is the first that does not hold of a text: as for `audit`, or the list has no room beside it
 abbrev pub IsFirstUnasked : List ℕ → AuditLink → Type 0
 IsFirstUnasked text link = IsUnread text link ⊎ ((link ≡ Request) × HasNoRoom text)
 
@@ -60,8 +60,8 @@ ListsQuestions text reply =
 abbrev pub IsAuditQuestionsReply : List ℕ → Reply → Type 0
 IsAuditQuestionsReply text = IsDecided (HasQuestions text) (IsFirstUnasked text) (ListsQuestions text)
 
--- for private clauses: a list of these signatures, so many bytes of them; none if their document has more than `most`
--- bytes
+-- for private clauses: a list of these signatures, and the number of its bytes; `None` if their document has more than
+-- `most` bytes
 abbrev pub HasAdded : ℕ → List AcceptedRow → Data → Option ℕ → Type 0
 HasAdded most rows list None = most < length (rows_text rows)
 HasAdded most rows list (Some size) = IsListOf most rows list size

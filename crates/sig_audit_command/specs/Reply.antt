@@ -13,8 +13,8 @@ use Rattle.sig_audit_command.specs.Link.{EveryLinkHolds, IsFirstFailing, IsReadA
 use Rattle.sig_audit_command.specs.declared.link.AuditLink.{AuditLink}
 use Rattle.sig_audit_command.specs.declared.link.AuditLink.TheVariants.{NoteKey, Origin, Consistency, Inclusion}
 
--- The reply to a text, of which these links hold, or this is the first that fails: status 0 if and only if every link
--- holds, and then the reply is such a one; else it shows the first link that fails.
+-- The reply to a text for which these links hold, or this is the first that fails: status 0 if and only if every link
+-- holds, and then the reply is of this form; else it shows the first link that fails.
 pub record IsDecided (Every : Type 0) (First : AuditLink → Type 0) (Made : Reply → Type 0) (reply : Reply) : Type 0 where
   pub decided : Every ⊎ ((link : AuditLink) × First link)
   pub succeeds : (reply.status ≡ 0) ↔ Every
@@ -26,13 +26,13 @@ abbrev pub Succeeds : List ℕ → Reply → Type 0
 Succeeds text reply =
     (request : AuditRequest) (heads : List AuditHead) → IsReadAs text request heads → IsAuditedReply request heads reply
 
--- *Audit*: the success line if and only if every link holds, and with it what the log's entries say of the heads and the
--- watched entries; else the first link that fails
+-- *Audit*: the success line if and only if every link holds, and with it what the log's entries say of the heads and
+-- the watched entries; else the first link that fails
 abbrev pub IsAuditReply : List ℕ → Reply → Type 0
 IsAuditReply text = IsDecided (EveryLinkHolds text) (IsFirstFailing text) (Succeeds text)
 
--- for private clauses: the error is one that the audit of a request can end with: there is a head, and each watched entry
--- is under one
+-- for private clauses: the error is one that the audit of a request can end with: there is a head, and each watched
+-- entry is under one
 abbrev pub IsShown : AuditError → Type 0
 IsShown fault.Empty = ⊥
 IsShown (fault.Head place) = ⊥

@@ -16,13 +16,14 @@ use sig_request::AuditRequest;
 use std::alloc::Global;
 
 /// Returns the reply to a request's text: the list of the signatures that `audit` asks for, of each head in order each
-/// signature over its note under the log's scheme and key, with status 0; else `refused checkpoint I` for the first head
-/// whose text is not a checkpoint, and `refused request` if the text is not a request of `audit`, or text, list and
-/// `,"accepted":` would have more than 2^24 bytes together. Which signatures the request itself accepts does not matter.
-/// Fails only if out of memory.
+/// signature over its note under the log's scheme and key, with status 0; else `refused checkpoint I` for the first
+/// head whose text is not a checkpoint, and `refused request` if the text is not a request of `audit`, or text, list
+/// and `,"accepted":` would have more than 2^24 bytes together. Which signatures the request itself accepts does not
+/// matter. Fails only if out of memory.
 ///
-/// Of two requests that differ in their accepted signatures alone, and in none of those that are asked for, `audit` has
-/// the same reply, also where no list is written. And a list that is written fits one request with the request that it is of.
+/// For two requests that differ only in accepted signatures that are not asked for, `audit` has
+/// the same reply, also where no list is written. And a list that is written fits one request with the request that it
+/// is of.
 pub fn audit_questions(alloc: Global, request: &[u8]) -> Result<Reply, OutOfMemory>
     ensures reply { IfOk result (IsAuditQuestionsReply request.now) }
     ensures suffice { AuditQuestionsSuffice }

@@ -31,7 +31,7 @@ pub fn reply_over(
     }
 }
 
-/// The reply to a request of which every link holds.
+/// Returns the reply to a request for which every link holds.
 fn audited_reply(
     alloc: Global,
     request: &AuditRequest,

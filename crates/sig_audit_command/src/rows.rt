@@ -65,7 +65,7 @@ fn add_head(
     sum
 }
 
-/// The same of a checkpoint whose note has this text.
+/// The same for a checkpoint whose note has this text.
 fn add_note(
     alloc: Global,
     list: &mut Document,

@@ -3,7 +3,7 @@ ghost use Rattle.std.specs.Prelude.{true};
 
 use sig_base::{SignatureChecker, VerifyScheme};
 
-/// Accepts every signature, so that what is measured goes on to its end.
+/// Accepts every signature, so that a measured call runs to its end.
 #[derive(Drop)]
 pub(crate) struct Accepting;
 

@@ -1,4 +1,4 @@
-//! Artifacts of zero bytes, hashed alone, or read and verified.
+//! Artifacts of zero bytes, only hashed, or read and verified.
 ghost use Rattle.std.specs.Prelude.{None};
 
 use sha2::{Digest, Sha256};
@@ -29,7 +29,7 @@ impl Source for Zeros {
     }
 }
 
-/// Returns the first byte of SHA-256 of so many zero bytes.
+/// Returns the first byte of SHA-256 of `length` zero bytes.
 pub fn hashed(count: u64) -> u64 {
     let piece = [0; PIECE];
     let mut hasher = Sha256::new();
@@ -40,7 +40,7 @@ pub fn hashed(count: u64) -> u64 {
     u64::from(hasher.finalize()[0])
 }
 
-/// Verifies the bundle that this text is of an artifact of so many zero bytes, where nothing is trusted. Returns 0;
+/// Verifies the bundle that this text is for an artifact of `length` zero bytes, where nothing is trusted. Returns 0;
 /// `None` if the text is not a bundle, or the artifact could not be read.
 pub fn verified(alloc: Global, text: &[u8], count: u64) -> Option<u64> {
     let bundle = read_bundle(alloc, text).ok()?;
@@ -49,7 +49,7 @@ pub fn verified(alloc: Global, text: &[u8], count: u64) -> Option<u64> {
     answer
 }
 
-/// The same of a bundle.
+/// The same for a bundle.
 fn untrusted(alloc: Global, bundle: &Bundle, count: u64) -> Option<u64> {
     let policy = OIDCIssuer::new(alloc, "https://issuer.example").ok()?;
     let verifier = Verifier::new(alloc, &nothing(alloc), 0).ok()?;

@@ -8,11 +8,11 @@ use sig_verify::HeldRoot;
 use sig_x509::{OIDCIssuer, SingleX509ExtPolicy};
 use std::alloc::Global;
 
-/// The issuer of the certificates that are asked for.
+/// The issuer that the policies require.
 const ISSUER: &str = "https://issuer.example";
 
 /// Reads accepted signatures, the object of the first line, and a trusted root, the second, and verifies the bundles of
-/// the lines after it at a time in seconds since 1970: in each line stands the SHA-256 of the artifact in hexadecimal, a
+/// the lines after it at a time in seconds since 1970: each line has the SHA-256 of the artifact in hexadecimal, a
 /// space, and the bundle. Returns how many are verified; `None` if one is not, or out of memory.
 pub fn verified(alloc: Global, input: &[u8], now: u64) -> Option<u64> {
     let text = std::str::from_utf8(input).ok()?;

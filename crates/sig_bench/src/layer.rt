@@ -14,10 +14,10 @@ const MANIFEST: &str = "sha256:00";
 
 const LOG: &str = "log";
 
-/// What is asked of a layer is so.
+/// The printed number if the check passes.
 const DONE: u64 = 0;
 
-/// What was read is refused.
+/// The printed number if the input is refused.
 const REFUSED: u64 = 1;
 
 /// Reads these bytes as the payload of a layer. Returns 0 if there is one, and 1 if it is refused; `None` if out of
@@ -43,8 +43,8 @@ pub fn of_promise(alloc: Global, promise: &[u8]) -> Option<u64> {
 }
 
 /// Reads this text as the Sigstore bundle of the image whose manifest has the digest `source`, under a key of this log
-/// alone, and asks whether a key signed the layer. Returns 0 if it did, and 1 if the bundle is refused; `None` if out of
-/// memory.
+/// alone, and asks whether a key signed the layer. Returns 0 if it did, and 1 if the bundle is refused; `None` if out
+/// of memory.
 pub fn of_bundle(alloc: Global, bundle: &[u8], source: &str, log: &str) -> Option<u64> {
     let mut keys = VerificationKeys::new(alloc);
     keys.insert(log, key(alloc)?).ok()?;
@@ -152,7 +152,7 @@ fn descriptor(
     })
 }
 
-/// A key of which nothing is checked.
+/// A key that is not checked.
 fn key(alloc: Global) -> Option<CosignVerificationKey> {
     CosignVerificationKey::from_der(alloc, b"key", &SigningScheme::default()).ok()
 }

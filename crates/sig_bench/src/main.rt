@@ -1,5 +1,5 @@
 //! A program for `bench/run`: it makes one call of a lower crate over standard input, so that the call can be measured
-//! alone. The words:
+//! by itself. The words:
 //!
 //! - `certificate N` reads a certificate N times, and prints how many extensions were read;
 //! - `read` reads a JSON document, and prints 0;
@@ -7,18 +7,18 @@
 //! - `bundle` reads a bundle, and prints 0;
 //! - `statement` reads a payload as a statement, `digests` as the checks of a bundle do, and both print how many
 //!   digests were taken;
-//! - `checks NOW` reads accepted signatures, a trusted root and bundles, verifies each of these at this time, and prints
-//!   how many;
+//! - `checks NOW` reads accepted signatures, a trusted root and bundles, verifies each of these at this time, and
+//!   prints how many;
 //! - `hash N` hashes N zero bytes, and prints the first byte of SHA-256; `artifact N` reads a bundle, verifies it of an
 //!   artifact of N zero bytes, where nothing is trusted, and prints 0;
 //! - `payload`, `signature` and `promise` read what `cosign` stores beside an image as the payload of a layer, as its
 //!   signature, or as what a log promised of it, under a checker that accepts every signature, ask whether a key signed
 //!   the layer, and print 0, or 1 if the input is refused; `attested DIGEST LOG` does so of the Sigstore bundle of an
 //!   image, under a key of this log;
-//! - `pool N` reads a leaf, N trust anchors and N intermediates, asks a pool for the leaf's issuer, where no signature is
-//!   genuine, and prints how many questions its checker was asked;
+//! - `pool N` reads a leaf, N trust anchors and N intermediates, asks a pool for the leaf's issuer, where no signature
+//!   is genuine, and prints how many questions its checker was asked;
 //! - `walk N` and `recursion N` check a leaf of a tree of 2^63 leaves N times, and print how often it was accepted;
-//!   `hashes N` and `inline N` make the hashes of N such checks alone, and print N.
+//!   `hashes N` and `inline N` make only the hashes of N such checks, and print N.
 //!
 //! It promises nothing.
 #![tactic(auto)]

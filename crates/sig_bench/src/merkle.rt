@@ -1,5 +1,5 @@
 //! Checks that a leaf is in a tree of 2^63 leaves, of whose nodes only those beside the leaf's path are made up, beside
-//! the hashes of such a check alone.
+//! only the hashes of such a check.
 ghost use Rattle.std.specs.Prelude.{◌≡◌, ◌<◌};
 
 use sig_base::Steps;
@@ -13,7 +13,7 @@ const SIZE: u64 = 1 << 63;
 
 const HASHES: usize = 63;
 
-/// The leaf's index. Its bits alternate, so that about as many hashes of the path stand on the left as on the right.
+/// The leaf's index. Its bits alternate, so that about as many hashes of the path are on the left as on the right.
 const INDEX: u64 = 0x5555_5555_5555_5555;
 
 /// The hash of the leaf, and the hashes of its audit path.
@@ -23,7 +23,7 @@ struct Path {
     hashes: [[u8; 32]; HASHES],
 }
 
-/// Returns how often the check of `sig_merkle` accepts the path in so many times.
+/// Returns how often the check of `sig_merkle` accepts the path in `count` times.
 pub fn walked(times: u64) -> Option<u64> {
     let path = made_up();
     let root = root_on::<Brand>(Blank::new(1), &path)?;
@@ -35,12 +35,12 @@ pub fn walked(times: u64) -> Option<u64> {
     Some(accepted)
 }
 
-/// Returns how often the recursion of RFC 6962 section 2.1.1 leads to the path's root in so many times.
+/// Returns how often the recursion of RFC 6962 section 2.1.1 leads to the path's root in `count` times.
 pub fn recursed(times: u64) -> Option<u64> {
     recursed_on::<Brand>(Blank::new(1), times)
 }
 
-/// Returns how often as many hashes of nodes as the path has, and nothing else, lead to one value in so many times: by
+/// Returns how often as many hashes of nodes as the path has, and nothing else, lead to one value in `count` times: by
 /// calls of `hash_children` like the check's.
 pub fn hashed(times: u64) -> u64 {
     let path = made_up();

@@ -15,12 +15,12 @@ unfoldable pub demo_entries : ℕ → List (List ℕ)
 demo_entries zero = []
 demo_entries (suc index) = demo_entries index ++ demo_entry index ∷ []
 
--- the index of the entry that is asked for: the middle one's
+-- the index of the entry that is asked for, which is the middle one
 abbrev pub demo_index : ℕ → ℕ
 demo_index count = count / 2
 
--- the log of so many entries: the root of their tree, and the audit path of the entry that is asked for (RFC 6962
--- sections 2.1 and 2.1.1)
+-- the log of this number of entries: the root of their tree, and the audit path of the entry that is asked for (RFC
+-- 6962 sections 2.1 and 2.1.1)
 unfoldable pub demo_log : ℕ → DemoLog
 demo_log count = record {
   count = count;

@@ -28,7 +28,7 @@ pub struct DemoLog {
 impl DemoLog {
     ghost use Rattle.sig_demo.specs.Log.{demo_log};
 
-    /// Makes the log of so many entries. Each entry and each node of their tree is hashed at most twice. Fails only if
+    /// Makes the log of `count` entries. Each entry and each node of their tree is hashed at most twice. Fails only if
     /// out of memory.
     #[tactic(auto, using(crate::proofs::Logs::logs))]
     pub fn new(alloc: Global, count: u64) -> Result<DemoLog, OutOfMemory>
@@ -48,7 +48,7 @@ impl DemoLog {
     }
 }
 
-/// The entries of a log of so many. Fails only if out of memory.
+/// Returns the entries of a log of `count` entries. Fails only if out of memory.
 #[tactic(auto, using(crate::proofs::Logs::logs))]
 fn entries_of(alloc: Global, count: u64) -> Result<Entries, OutOfMemory>
     requires { count ≤ 4096 }

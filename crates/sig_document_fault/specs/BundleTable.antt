@@ -1,4 +1,5 @@
--- *Tables* of a bundle (Sigstore bundle format), object by object: the rows in the order in which its record reads them.
+-- *Tables* of a bundle (Sigstore bundle format), object by object: the rows in the order in which its record reads
+-- them.
 use Rattle.std.specs.Prelude.{[], ◌∷◌, codes}
 use Rattle.sig_document_fault.specs.CommonTable.{certificate_table, chain_table, log_id_table}
 use Rattle.sig_table.specs.Kinds.{bytes_table, i64_table, object_table, text_table}
@@ -40,7 +41,7 @@ entry_table =
     ∷ []
     )
 
--- of the three that say whose signature it is, at most one is there
+-- at most one of the three that say what the signer is
 unfoldable pub material_table : Table
 material_table =
     record_table (

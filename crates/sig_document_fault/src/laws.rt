@@ -1,4 +1,4 @@
-//! That the tables are those of the formats. It has no code.
+//! The tables are those of the formats. There is no code here.
 ghost use Rattle.sig_bundle.specs.BundleRecord.{bundle_of};
 ghost use Rattle.sig_document_fault.specs.BundleTable.{bundle_table};
 ghost use Rattle.sig_document_fault.specs.RootTable.{root_table};

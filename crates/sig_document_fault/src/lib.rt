@@ -8,13 +8,13 @@
 //! dsseEnvelope                                                   beside another content
 //! ```
 //!
-//! The layer above uses two facts. Nothing is wrong with a text if and only if `read_bundle` (`read_trusted_root`) reads
-//! it, and else the cause is the same: not JSON, a float, a member. Of a member, the fault is the first in the order of
-//! the rows of the record. The members of the formats are optional, so none is ever absent.
+//! The layer above uses two facts. Nothing is wrong with a text if and only if `read_bundle` (`read_trusted_root`)
+//! reads it, and else the cause is the same: not JSON, a float, a member. Of a member, the fault is the first in the
+//! order of the rows of the record. The members of the formats are optional, so none is ever absent.
 //!
-//! The readers keep no member's name: this is a second pass over the text, for a caller that has to tell what is wrong
-//! with it. It takes linear time, and the memory of a borrowed document. `laws` says that the tables are those of the
-//! records.
+//! The readers do not keep a member's name: this is a second pass over the text, for a caller that has to tell what is
+//! wrong with it. It takes linear time, and the memory of a borrowed document. `laws` says that the tables are those of
+//! the records.
 #![tactic(auto)]
 
 mod bundle;

@@ -1,4 +1,4 @@
--- *Explanation of an audit*: of a text that is not a request what is wrong with it; else the first head that is not a
+-- *Explanation of an audit*: what is wrong with a text that is not a request; else the first head that is not a
 -- checkpoint; else where the audit of the heads ends, or what was audited.
 use Rattle.std.specs.Prelude.{◌≡◌, ◌⊎◌, ℕ, List, Some}
 use Rattle.sig_audit.specs.Audited.{IsAudited}
@@ -17,13 +17,13 @@ use Rattle.sig_request_fault.specs.AuditTable.{audit_table}
 use Rattle.sig_request_fault.specs.RequestFault.{request_fault_in}
 use Rattle.sig_request_fault.specs.declared.fault.RequestFault.{RequestFault}
 
--- of a request whose heads are read: what was audited, or the first link that fails
+-- the tree of a request whose heads are read: what was audited, or the first link that fails
 abbrev pub IsAuditTree : AuditRequest → List AuditHead → Data → Type 0
 IsAuditTree request heads tree =
     (IsAudited (accepts request) heads request.watched × (tree ≡ audited_tree heads request.watched))
     ⊎ ((e : AuditError) × IsAuditFault (accepts request) heads request.watched e × (tree ≡ fault_tree request heads e))
 
--- of a request: the first head that is not a checkpoint, or by its heads
+-- the tree of a request: the first head that is not a checkpoint, or that of its heads
 abbrev pub IsRequestTree : AuditRequest → Data → Type 0
 IsRequestTree request tree =
     ((place : ℕ) × IsFirstUnread request.heads place × (tree ≡ unread_tree request.heads place))

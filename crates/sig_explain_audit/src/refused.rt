@@ -146,7 +146,7 @@ fn with_head_unsigned(
 
 // ---- `origin`
 
-/// The refusal of a head that has not the origin of the first one.
+/// The refusal of a head that does not have the origin of the first one.
 #[tactic(auto, using(crate::proofs::Members::members_after))]
 fn origin_object(
     alloc: Global,

@@ -1,4 +1,4 @@
--- What is shown of a bundle, and, for private clauses, what is found of it beside.
+-- What is shown of a bundle, and, for private clauses, its verdict beside it.
 use Rattle.std.specs.Prelude.{◌≡◌, Some, Ok, Err}
 use Rattle.sig_explain_gate.specs.declared.bundle.Finding.{Finding}
 use Rattle.sig_explain_verify.specs.Inputs.{Inputs as Explained}
@@ -29,8 +29,8 @@ abbrev pub IsOutcomeTree : Explained → Outcome → Data → Type 0
 IsOutcomeTree i (Ok entry) tree = IsVerifiedTree i entry tree
 IsOutcomeTree i (Err error) tree = IsRefusedTree i error tree
 
--- The tree of a bundle with the verdict on it: every link of the chain of trust holds, and the entry is the bundle's, or
--- this link is the first that fails; a result of offline verification says so; and the tree shows that result.
+-- The tree of a bundle with the verdict on it: every link of the chain of trust holds, and the entry is the bundle's,
+-- or this link is the first that fails; a result of offline verification says so; and the tree shows that result.
 pub record IsBundleShown (i : Explained) (verdict : BundleVerdict) (tree : Data) : Type 0 where
   pub links : IsJudged (chain_outside i) (chain_inputs i) verdict
   pub result : Outcome

@@ -15,7 +15,7 @@ abbrev pub unread_tree : Option RequestFault → Data
 unread_tree None = object_of []
 unread_tree (Some fault) = request_tree fault
 
--- Of a manifest what is shown of its artifacts; of any other text what is wrong with it.
+-- For a manifest, what is shown of its artifacts; for any other text, what is wrong with it.
 pub record IsGateExplanation (text : List ℕ) (tree : Data) : Type 0 where
   pub decided : HasManifest text ⊎ IsUnread text
   pub manifest : (parts : Parts) → IsGateText text parts → IsGateTree parts tree

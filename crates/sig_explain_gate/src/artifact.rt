@@ -1,4 +1,4 @@
-//! What is found of an artifact: the verdict on it, and what is shown of it.
+//! The result for an artifact: the verdict on it, and what is shown of it.
 ghost use Rattle.std.specs.Prelude.{◌≡◌, IfOk, OnOk, Some};
 ghost use Rattle.sig_base.specs.ByText.{text_lookup};
 ghost use Rattle.sig_explain_gate.specs.Artifact.{AreFound, IsArtifactFound, artifact_tree};
@@ -29,7 +29,7 @@ pub(crate) struct ArtifactFinding {
     pub(crate) document: Document,
 }
 
-/// What is found of the bundles of an artifact, in order.
+/// The results for the bundles of an artifact, in order.
 #[derive(Drop)]
 pub(crate) struct Findings {
     verdicts: BundleVerdicts,
@@ -37,8 +37,8 @@ pub(crate) struct Findings {
     list: Document,
 }
 
-/// What is found of an artifact. Its trusted root is read and its policy is held afterwards, if it has a bundle. Fails only if
-/// out of memory.
+/// Returns the result for an artifact. Its trusted root is read and its policy is held afterwards, if it has a bundle.
+/// Fails only if out of memory.
 pub(crate) fn find_artifact<'a>(
     alloc: Global,
     roots: &mut ReadRoots,
@@ -63,7 +63,8 @@ pub(crate) fn find_artifact<'a>(
     Ok(ArtifactFinding { verdict, document })
 }
 
-/// What is found of the bundles of an artifact. Its trusted root is read and its policy is held afterwards, if it has one.
+/// Returns the results for the bundles of an artifact. Its trusted root is read and its policy is held afterwards, if
+/// it has one.
 fn find_bundles<'a>(
     alloc: Global,
     roots: &mut ReadRoots,
@@ -102,7 +103,7 @@ fn find_bundles<'a>(
     find_each(alloc, root, text.as_bytes(), now, policy, request, artifact)
 }
 
-/// What is found of the bundles of an artifact under its trusted root, at the manifest's time, and its policy.
+/// Returns the results for the bundles of an artifact under its trusted root, at the manifest's time, and its policy.
 fn find_each(
     alloc: Global,
     root: &ReadRoot,

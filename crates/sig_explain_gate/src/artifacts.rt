@@ -1,4 +1,4 @@
-//! What is found of the artifacts of a manifest.
+//! The results for the artifacts of a manifest.
 ghost use Rattle.std.specs.Prelude.{◌≡◌, IfOk, length};
 ghost use Rattle.sig_explain_gate.specs.Artifact.{AreArtifactsFound};
 ghost use Rattle.sig_explain_gate.specs.Roots.{AreRead};
@@ -15,7 +15,7 @@ use sig_gate_command::GateRequest;
 use sig_json::Document;
 use std::alloc::Global;
 
-/// What is found of the artifacts of a manifest, in order.
+/// The results for the artifacts of a manifest, in order.
 #[derive(Drop)]
 pub(crate) struct ArtifactFindings {
     pub(crate) verdicts: Verdicts,
@@ -23,7 +23,7 @@ pub(crate) struct ArtifactFindings {
     pub(crate) list: Document,
 }
 
-/// What is found of the artifacts of a manifest. Fails only if out of memory.
+/// Returns the results for the artifacts of a manifest. Fails only if out of memory.
 pub(crate) fn find_artifacts(
     alloc: Global,
     request: &GateRequest,
@@ -40,7 +40,7 @@ pub(crate) fn find_artifacts(
     found
 }
 
-/// What is found of the artifacts of a manifest, under trusted roots and policies that are at hand or will be.
+/// Returns the results for the artifacts of a manifest, under trusted roots and policies that were or will be read.
 fn find_each<'a>(
     alloc: Global,
     roots: &mut ReadRoots,

@@ -1,4 +1,4 @@
-//! What is found of a bundle, and what is shown of it.
+//! The result for a bundle, and what is shown of it.
 ghost use Rattle.std.specs.Prelude.{◌≡◌, IfOk};
 ghost use Rattle.sig_explain_gate.specs.Bundle.{IsFoundHere, IsRefusedHere};
 ghost use Rattle.sig_explain_gate.specs.Roots.{IsReadRoot};
@@ -28,7 +28,7 @@ pub(crate) struct Finding {
     pub(crate) document: Document,
 }
 
-/// What is found of a bundle under its trusted root and its policy. Fails only if out of memory.
+/// Returns the result for a bundle under its trusted root and its policy. Fails only if out of memory.
 pub(crate) fn find_under(
     alloc: Global,
     root: &ReadRoot,
@@ -45,7 +45,7 @@ pub(crate) fn find_under(
     }
 }
 
-/// What is found of a bundle under a trusted root that is one.
+/// Returns the result for a bundle under a text that is a trusted root.
 fn find_held(
     alloc: Global,
     held: &HeldRoot,
@@ -69,7 +69,7 @@ fn find_held(
     }
 }
 
-/// What is found of a bundle of which every link holds.
+/// Returns the result for a bundle for which every link holds.
 fn verified(
     alloc: Global,
     shown: &ShownRoot,
@@ -87,7 +87,7 @@ fn verified(
     })
 }
 
-/// What is found of a bundle of which a link fails, with this error.
+/// Returns the result for a bundle for which a link fails, with this error.
 fn refused(
     alloc: Global,
     shown: &ShownRoot,

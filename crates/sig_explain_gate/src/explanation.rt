@@ -28,14 +28,14 @@ pub struct ExplainedGate {
     pub document: Document,
 }
 
-/// Returns the reply of `gate` to a request's text, and what `explain gate` shows of it. Of a manifest that is an object of
-/// one member, `artifacts`: for each artifact in order its `name`, whether it is `admitted`, `yes` or `no`, and `bundles`,
-/// for each of its bundles in order the object of what was verified, or of why it is refused, as `explain verify` shows it
-/// under the artifact's trusted root and policy. Of a text that is not a manifest it is the object of what is wrong with it,
-/// with the link `request`. Fails only if out of memory.
+/// Returns the reply of `gate` to a request's text, and what `explain gate` shows of it. For a manifest that is an
+/// object of one member, `artifacts`: for each artifact in order its `name`, whether it is `admitted`, `yes` or `no`,
+/// and `bundles`, for each of its bundles in order the object of what was verified, or of why it is refused, as
+/// `explain verify` shows it under the artifact's trusted root and policy. For a text that is not a manifest it is the
+/// object of what is wrong with it, with the link `request`. Fails only if out of memory.
 ///
-/// Both are made of one reading of the text, and of one verdict on each bundle; a text that is not a manifest is read again,
-/// for what is wrong with it.
+/// Both are made of one reading of the text, and of one verdict on each bundle; a text that is not a manifest is read
+/// again, for what is wrong with it.
 pub fn explained_gate(alloc: Global, text: &[u8]) -> Result<ExplainedGate, OutOfMemory>
     ensures reply { IfOk result (λ explained. IsGateReply text.now explained.reply) }
     ensures explanation { IfOk result (λ explained. IsGateExplanation text.now (document_tree explained.document)) }

@@ -51,7 +51,7 @@ no_start_rows (Origin place) = texts_row (codes "cause") (codes "Origin" ∷ [])
 unfoldable pub no_start_tree : NoStart → Data
 no_start_tree why = object_of (text_row (codes "link") (codes "request") ∷ no_start_rows why)
 
--- for private clauses: what became of the origins, and the logs that a request starts from or why there are none
+-- for private clauses: the result of adding the origins: the logs that a request starts from, or why there are no logs
 abbrev pub AreAddedOr : Logs → List OriginKey → Logs → Option ℕ → Type 0
 AreAddedOr logs origins after None = AreAdded logs origins after
 AreAddedOr logs origins after (Some place) = StopsAt logs origins place

@@ -1,4 +1,5 @@
--- What is shown of an update: the new head where it is taken, else the link that fails, the cause, and what it compares.
+-- What is shown of an update: the new head where it is taken, else the link that fails, the cause, and what it
+-- compares.
 use Rattle.std.specs.Prelude.{ℕ, zero, suc, ◌-◌, List, [], ◌∷◌, ◌++◌, codes, Option, Some, None, option_map, Result, Ok, Err}
 use Rattle.sig_base.specs.ByText.{text_lookup}
 use Rattle.sig_base.specs.declared.checker.AcceptedRow.{AcceptedRow}
@@ -17,7 +18,7 @@ use Rattle.sig_witness.specs.declared.error.WitnessError.TheVariants as fault
 use Rattle.sig_witness_command.specs.Start.{Logs}
 use Rattle.sig_witness_command.specs.declared.request.UpdateText.{UpdateText}
 
--- of so many updates that `note-key` refuses all members are shown, of later ones no more than the origin
+-- for this number of updates that `note-key` refuses all members are shown, for later ones only the origin
 abbrev pub most_unsigned : ℕ
 most_unsigned = 16
 

@@ -12,7 +12,7 @@ use Rattle.sig_witness_command.specs.Start.{Logs}
 use Rattle.sig_witness_command.specs.Walk.{takes}
 use Rattle.sig_witness_command.specs.declared.request.UpdateText.{UpdateText}
 
--- between two updates: the logs, and of how many more that `note-key` refuses all members are shown
+-- the state between two updates: the logs, and for how many more that `note-key` refuses all members are shown
 abbrev pub Standing : Type 0
 Standing = Logs × ℕ
 

@@ -1,4 +1,4 @@
--- *Explanation of a witness run*: of a text that is not a request what is wrong with it; else why it has no logs to start
+-- *Explanation of a witness run*: what is wrong with a text that is not a request; else why it has no logs to start
 -- from; else what is shown of each update.
 use Rattle.std.specs.Prelude.{◌≡◌, ◌⊎◌, ℕ, List, [], ◌∷◌, codes, length, Some}
 use Rattle.sig_json.specs.Writing.{list_tree, object_of}
@@ -23,14 +23,14 @@ unfoldable pub updates_tree : List UpdateText → Data → Data
 updates_tree texts list =
     object_of (count_row (codes "updateCount") (length texts) ∷ (codes "updates", Some list) ∷ [])
 
--- of a request that starts from these logs
+-- the tree of a request that starts from these logs
 pub record IsUpdatesTree (request : WitnessRequest) (start : Logs) (tree : Data) : Type 0 where
   pub trees : List Data
   pub after : Standing
   pub walk : IsShownWalk request.accepted (start, most_unsigned) request.updates trees after
   pub made : tree ≡ updates_tree request.updates (list_tree (λ shown. shown) trees)
 
--- of a request: why it has no logs to start from, or its updates
+-- the tree of a request: why it has no logs to start from, or its updates
 abbrev pub IsRequestTree : WitnessRequest → Data → Type 0
 IsRequestTree request tree =
     ((why : NoStart) × IsNoStart request why × (tree ≡ no_start_tree why))

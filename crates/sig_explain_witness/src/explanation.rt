@@ -19,9 +19,10 @@ use sig_witness_command::request::WitnessRequest;
 use sig_witness_fault::witness_request_fault;
 use std::alloc::Global;
 
-/// Explains what `witness` says of a request's text: what is wrong with it, if it is not a request, its state is none, or
-/// an origin cannot be added; else of each update in order the origin and the size of the new head, or the first link that
-/// fails, with its cause and what it compares. docs/LINKS.md lists the members. Fails only if out of memory.
+/// Explains what `witness` says of a request's text: what is wrong with it, if it is not a request, its state is not
+/// one, or an origin cannot be added; else for each update in order the origin and the size of the new head, or the
+/// first link that fails, with its cause and what it compares. docs/LINKS.md lists the members. Fails only if out of
+/// memory.
 pub fn witness_explanation(alloc: Global, text: &[u8]) -> Result<Document, OutOfMemory>
     ensures { IfOk result (λ document. IsWitnessExplanation text.now (document_tree document)) }
 {

@@ -24,8 +24,8 @@ use sig_witness::{Witness, WitnessError};
 use sig_witness_command::request::UpdateText;
 use std::alloc::Global;
 
-/// Of so many updates that `note-key` refuses all members are shown, of later ones no more than the origin. Each costs a
-/// pass over the accepted signatures.
+/// For this number of updates that `note-key` refuses all members are shown, for later ones only the origin. Each costs
+/// a pass over the accepted signatures.
 pub const MOST_UNSIGNED: usize = 16;
 
 /// What is shown of an update whose text is not a checkpoint. Fails only if out of memory.
@@ -63,9 +63,9 @@ fn with_origin(
     with_shown(object, alloc, "origin", "originLength", origin)
 }
 
-/// The refusal of an update of a witness, which it left as it was: the link, the cause, and what the link compares; of
-/// `left` more that `note-key` refuses with what the accepted signatures have. Fails only if out of memory, also where the
-/// update did.
+/// The refusal of an update of a witness, which it left as it was: the link, the cause, and what the link compares; for
+/// `left` more that `note-key` refuses with what the accepted signatures have. Fails only if out of memory, also where
+/// the update did.
 #[tactic(auto, unfolding(crate::specs::UpdateTrees::fault_tree))]
 pub(crate) fn fault_document(
     alloc: Global,
@@ -250,7 +250,7 @@ fn with_kept_head(
     with_head(object, alloc, "old", head.0, &head.1)
 }
 
-/// The refusal of an update of a log of which as many heads are kept as there may be.
+/// The refusal of an update of a log that has as many kept heads as there may be.
 fn full_object(alloc: Global) -> Result<Object, OutOfMemory>
     ensures { IfOk result (λ made. members made ≡ members_into no_members full_rows) }
 {
@@ -258,7 +258,7 @@ fn full_object(alloc: Global) -> Result<Object, OutOfMemory>
     with_cause(object, alloc, "Full")
 }
 
-/// Of how many more all members are shown after an update that fails with this error.
+/// Returns for how many more all members are shown after an update that fails with this error.
 pub(crate) fn left_after(error: WitnessError, left: usize) -> usize
     ensures { result ≡ left_after error left }
 {

@@ -1,4 +1,4 @@
-//! The witness that a request starts from, or why there is none.
+//! The witness that a request starts from, or why there is no witness.
 //!
 //! ```text
 //! {"cause":["State","Lines"],"link":"request"}
@@ -27,8 +27,8 @@ pub enum NoStart {
     Origin(usize),
 }
 
-/// Returns the witness of a request's state, to which each origin was added in order; or why there is none. Fails only if
-/// out of memory.
+/// Returns the witness of a request's state, to which each origin was added in order; or why there is no witness. Fails
+/// only if out of memory.
 pub(crate) fn read_start(
     alloc: Global,
     request: &WitnessRequest,

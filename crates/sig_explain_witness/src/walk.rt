@@ -13,8 +13,8 @@ use sig_witness::Witness;
 use sig_witness_command::request::UpdateText;
 use std::alloc::Global;
 
-/// Updates a witness by each of these updates in turn, and returns the list of what is shown of each. Of `left` updates
-/// that `note-key` refuses all members are shown. Fails only if out of memory.
+/// Updates a witness by each of these updates in turn, and returns the list of what is shown of each. For `left`
+/// updates that `note-key` refuses all members are shown. Fails only if out of memory.
 #[tactic(auto, using(crate::proofs::Walks::walking))]
 pub(crate) fn update_each(
     alloc: Global,

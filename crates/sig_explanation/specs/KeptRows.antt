@@ -106,7 +106,7 @@ inner_policy_rows error = texts_row (codes "cause") (policy_name error ∷ []) �
 unfoldable pub inner_policy_tree : PolicyError → Data
 inner_policy_tree error = object_of (inner_policy_rows error)
 
--- how many refusals of a list are shown at most
+-- the greatest number of refusals of a list that are shown
 abbrev pub most_refusals : ℕ
 most_refusals = 64
 

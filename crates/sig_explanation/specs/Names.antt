@@ -189,7 +189,7 @@ merkle_name (merkle.NewTreeSmaller _ _) = codes "NewTreeSmaller"
 merkle_name (merkle.WrongProofSize _ _) = codes "WrongProofSize"
 merkle_name merkle.WrongEmptyTreeHash = codes "WrongEmptyTreeHash"
 
--- a refusal of a list of policies holds such refusals
+-- a refusal of a list of policies holds refusals of policies
 abbrev pub opened_policy_name : PolicyError-F PolicyError PolicyErrors → List ℕ
 opened_policy_name policy.ExtensionNotFound = codes "ExtensionNotFound"
 opened_policy_name (policy.ExtensionCheckFailed _ _ _) = codes "ExtensionCheckFailed"

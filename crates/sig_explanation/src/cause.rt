@@ -104,7 +104,7 @@ fn push_bundle(
     }
 }
 
-/// Adds the names of why a certificate has not the profile that is asked for.
+/// Adds the names of why a certificate does not have the required profile.
 fn push_validation(
     alloc: Global,
     names: &mut OwnedList<Text>,
@@ -123,7 +123,7 @@ fn push_validation(
     }
 }
 
-/// Adds the names of why a log entry has not what a media type demands.
+/// Adds the names of why a log entry does not have what a media type requires.
 fn push_profile(
     alloc: Global,
     names: &mut OwnedList<Text>,

@@ -15,9 +15,9 @@ use sig_shown::{ShownText, with_count, with_list, with_shown};
 use sig_verify::OfflineError;
 use std::alloc::Global;
 
-/// The object with what the check of a proof keeps: the sizes `new` and `old`; how many hashes there are, `got`, and how
-/// many there have to be, `want`; or the roots `expected`, that the proof leads to, and `got`, in hexadecimal. Fails only
-/// if out of memory.
+/// The object with what the check of a proof keeps: the sizes `new` and `old`; how many hashes there are, `got`, and
+/// how many there have to be, `want`; or the roots `expected`, that the proof leads to, and `got`, in hexadecimal.
+/// Fails only if out of memory.
 pub fn with_merkle(
     object: Object,
     alloc: Global,
@@ -67,7 +67,7 @@ pub(crate) fn with_kept(
     }
 }
 
-/// The object with what the checks of a bundle alone keep.
+/// The object with what the checks of only a bundle keep.
 fn with_bundle(object: Object, alloc: Global, kind: &BundleErrorKind) -> Result<Object, OutOfMemory>
     ensures { IfOk result (λ made. members made ≡ members_into (members object) (bundle_rows kind.now)) }
 {

@@ -95,7 +95,7 @@ pub(crate) fn bundle_name(error: &BundleErrorKind) -> &'static str
     }
 }
 
-/// The name of why a certificate has not the profile that is asked for.
+/// The name of why a certificate does not have the required profile.
 pub(crate) fn validation_name(error: &CertificateValidationError) -> &'static str
     ensures { result.now ≡ validation_name error.now }
 {
@@ -152,7 +152,7 @@ pub(crate) fn part_name(error: &PartName) -> &'static str
     }
 }
 
-/// The name of why a log entry has not what a media type demands.
+/// The name of why a log entry does not have what a media type requires.
 pub(crate) fn profile_name(error: &BundleProfileErrorKind) -> &'static str
     ensures { result.now ≡ profile_name error.now }
 {

@@ -26,7 +26,7 @@ member_of_artifact place name = record {
 abbrev pub at_artifact : ℕ → List ℕ → Option RequestFault
 at_artifact place name = Some (Document (Member (member_of_artifact place name)))
 
--- of a text that is a manifest except for what its artifacts name: the first name that is not there
+-- the first name that is not there, of a text that is a manifest except for what its artifacts name
 abbrev pub unknown_fault : Result Parts ManifestError → Option RequestFault
 unknown_fault (Ok parts) = None
 unknown_fault (Err (UnknownRoot place)) = at_artifact place (codes "root")

@@ -19,7 +19,7 @@ use Rattle.sig_table.specs.Table.{Table, leaf, elements, optional_row, required_
 abbrev pub name_table : Table
 name_table = leaf (other_kind name_kind)
 
--- an artifact; of its rule first that it is one, in which rules nest to at most 64 levels, and then that it has at most 64
+-- an artifact; its rule is first one in which rules nest to at most 64 levels, and then one that has at most 64
 -- nodes
 unfoldable pub artifact_table : Table
 artifact_table =
@@ -34,7 +34,7 @@ artifact_table =
     ∷ []
     )
 
--- the artifacts, if there are as many as a manifest may have, with as many bundles
+-- the artifacts, if a manifest may have this many artifacts and bundles
 abbrev pub within : List Asked → Option (List Asked)
 within artifacts = if is_within artifacts then Some artifacts else None
 

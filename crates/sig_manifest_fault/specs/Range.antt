@@ -6,7 +6,7 @@ use Rattle.sig_table.specs.Table.{Table, leaf}
 use Rattle.sig_table.specs.declared.fault.Cause.{Cause}
 use Rattle.sig_table.specs.declared.fault.Cause.TheVariants.{BeyondRange}
 
--- what this does not read is beyond its range
+-- a value that this does not read is outside its range
 abbrev pub beyond : {A : Type 0} → (Data → Option A) → Data → Option Cause
 beyond kind d = unless (is_some (kind d)) BeyondRange
 

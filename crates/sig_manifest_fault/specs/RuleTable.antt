@@ -1,4 +1,5 @@
--- *Table* of the rules of a manifest: an object with exactly one of six members, which rules nest in to so many levels.
+-- *Table* of the rules of a manifest: an object with exactly one of six members, in which rules nest to a given number
+-- of levels.
 use Rattle.std.specs.Prelude.{ℕ, zero, suc, nat_lt, List, [], ◌∷◌, codes, Option, Some, None}
 use Rattle.sig_base.specs.OptionSteps.{◌>>=◌}
 use Rattle.sig_json.specs.Data.{Data}
@@ -13,7 +14,7 @@ use Rattle.sig_table.specs.Kinds.{text_table, u64_table}
 use Rattle.sig_table.specs.Table.{Table, leaf, chosen, oneof_row, required_row, record_table}
 use Rattle.sig_table.specs.declared.fault.Cause.TheVariants.{BeyondRange}
 
--- ---- a value that has not exactly one of the members: the second that is there is not alone, or `least` is absent
+-- ---- a value that does not have exactly one of the members: a second one is there, or `least` is absent
 
 unfoldable pub form_names : List (List ℕ)
 form_names =
@@ -54,7 +55,7 @@ abbrev pub table_of : Table → Option Form → Table
 table_of inner None = no_form_table
 table_of inner (Some form) = form_table inner form
 
--- a rule in which rules nest to at most so many levels
+-- a rule in which rules nest to at most this many levels
 unfoldable pub nested : ℕ → Table
 nested zero = leaf (λ d. Some BeyondRange)
 nested (suc levels) = chosen (λ d. table_of (nested levels) (form_of d))

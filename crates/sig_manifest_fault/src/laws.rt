@@ -1,4 +1,4 @@
-//! That the table is that of manifests. It has no code.
+//! The table is that of manifests. There is no code here.
 ghost use Rattle.std.specs.Prelude.{◌≡◌, ◌↔◌, ℕ, List, None, is_some};
 ghost use Rattle.sig_json.specs.Data.{Data};
 ghost use Rattle.sig_json.specs.NamedTree.{IsNamedTree};

@@ -1,5 +1,5 @@
-//! What is wrong with a text that has to be a manifest, the request of `gate`: the first member that breaks the table, or
-//! else the first artifact that names a trusted root or a policy that is not there.
+//! What is wrong with a text that has to be a manifest, the request of `gate`: the first member that breaks the table,
+//! or else the first artifact that names a trusted root or a policy that is not there.
 //!
 //! ```text
 //! roots.sigstore                   of another kind: not a text
@@ -10,12 +10,12 @@
 //! artifacts[7].root                beyond its range: no trusted root has this name
 //! ```
 //!
-//! The layer above uses one fact. Of a text the fault is the one that is defined: that it has more than 2^24 bytes; else
-//! that it is not JSON, or has a float; else the first member in the order of the table, which is that of docs/REQUESTS.md,
+//! The layer above uses one fact. The fault of a text is that of the definition: it has more than 2^24 bytes; else
+//! it is not JSON, or has a float; else the first member in the order of the table, which is that of docs/REQUESTS.md,
 //! whatever the order in the text; else the first name that is not there.
 //!
-//! The reader of manifests keeps no member's name: this is a second pass over the text, for a caller that has to tell what
-//! is wrong with it. It takes linear time, and the memory of two readings.
+//! The reader of manifests does not keep a member's name: this is a second pass over the text, for a caller that has to
+//! tell what is wrong with it. It takes linear time, and the memory of two readings.
 #![tactic(auto)]
 
 mod artifact;

@@ -58,10 +58,10 @@ impl MemberTable for ManifestTable {
     }
 }
 
-/// Returns what is wrong with a text that has to be a manifest, or `None` if and only if it is one: that it has more than
-/// 2^24 bytes; else that it is not JSON, or has a float; else the first member that breaks the table, in its order; else
-/// the first artifact that names a trusted root, or else a policy, that is not there, as a member beyond its range. Fails
-/// only if out of memory.
+/// Returns what is wrong with a text that has to be a manifest, or `None` if and only if it is one: that it has more
+/// than 2^24 bytes; else that it is not JSON, or has a float; else the first member that breaks the table, in its
+/// order; else the first artifact that names a trusted root, or else a policy, that is not there, as a member outside
+/// its range. Fails only if out of memory.
 pub fn manifest_fault(alloc: Global, text: &[u8]) -> Result<Option<RequestFault>, OutOfMemory>
     ensures value { IfOk result (λ found. found ≡ manifest_fault_in text.now) }
     ensures manifest { IfOk result (λ found. (found ≡ None) ↔ IsManifest text.now) }

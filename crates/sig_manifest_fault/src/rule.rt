@@ -33,7 +33,7 @@ impl MemberTable for NestedTable {
     }
 }
 
-/// Checks a rule in which rules nest to at most so many levels.
+/// Checks a rule in which rules nest to at most this many levels.
 #[cycle(rules)]
 #[tactic(auto, using(crate::proofs::RuleLevels::levels))]
 pub(crate) fn rule(alloc: Global, json: Json<'_, '_>, levels: usize) -> Result<(), TableError>
@@ -60,7 +60,7 @@ fn form_there(json: Json<'_, '_>) -> Option<Form>
     }
 }
 
-/// Checks a rule of this form, in which rules nest to at most so many levels below it.
+/// Checks a rule of this form, in which rules nest to at most this many levels below it.
 #[cycle(rules)]
 #[tactic(auto, using(sig_table::proofs::Steps::steps), unfolding(crate::specs::RuleTable::form_table))]
 fn rule_as(alloc: Global, form: Form, json: Json<'_, '_>, levels: usize) -> Result<(), TableError>
@@ -122,7 +122,7 @@ fn origin_rule(alloc: Global, json: Json<'_, '_>) -> Result<(), TableError>
     required::<TextTable>(alloc, json, "origin")
 }
 
-/// A rule that asks for a tree of a size.
+/// Checks a rule that requires a tree of a size.
 #[tactic(auto, using(sig_table::proofs::Steps::steps))]
 fn size_rule(alloc: Global, json: Json<'_, '_>) -> Result<(), TableError>
     ensures { Answers TableError.OutOfMemory (λ x. x) result
@@ -222,7 +222,7 @@ fn each_rule(alloc: Global, json: Json<'_, '_>, levels: usize) -> Result<(), Tab
     Ok(())
 }
 
-/// A value of which not exactly one of the members is there.
+/// Returns the fault of a value that does not have exactly one of the members.
 #[tactic(auto, using(sig_table::proofs::Steps::steps), unfolding(crate::specs::RuleTable::no_form_table))]
 fn no_form(alloc: Global, json: Json<'_, '_>) -> Result<(), TableError>
     ensures { Answers TableError.OutOfMemory (λ x. x) result (or_fault (fault_of no_form_table (tree json.entry))) }
@@ -232,7 +232,7 @@ fn no_form(alloc: Global, json: Json<'_, '_>) -> Result<(), TableError>
     required::<Nothing>(alloc, json, "least")
 }
 
-/// The row of the members of a rule: one at most is there.
+/// The row of the members of a rule: at most one is there.
 #[tactic(auto, unfolding(crate::specs::RuleTable::form_names))]
 fn one_of_forms(alloc: Global, json: Json<'_, '_>) -> Result<(), TableError>
     ensures { Answers TableError.OutOfMemory (λ x. x) result

@@ -28,7 +28,7 @@ pub(crate) fn unknown_name(alloc: Global, text: &[u8]) -> Result<Option<RequestF
     }
 }
 
-/// The same as what is wrong with a text.
+/// The same as the fault of a text.
 fn at_artifact(alloc: Global, place: usize, name: &str) -> Result<Option<RequestFault>, OutOfMemory>
     ensures { IfOk result (λ found. found ≡ at_artifact place name.now) }
 {
@@ -38,7 +38,7 @@ fn at_artifact(alloc: Global, place: usize, name: &str) -> Result<Option<Request
     }
 }
 
-/// The member of this name of the artifact at this index, beyond its range.
+/// The member of this name of the artifact at this index, outside its range.
 fn member_fault(alloc: Global, place: usize, name: &str) -> TableError
     ensures { OrMemory TableError.OutOfMemory result (result ≡ Fault (member_of_artifact place name.now)) }
 {

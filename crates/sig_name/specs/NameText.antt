@@ -54,6 +54,6 @@ text_in bytes = if is_utf8 bytes then Some bytes else None
 abbrev pub text_if : List Part → Option (List ℕ)
 text_if parts = if nat_le (length parts) most_parts then text_in (parts_text parts) else None
 
--- the text of a name; none where the bytes are not such a name, it has more parts, or a value is not UTF-8
+-- the text of a name; `None` if the bytes are not such a name, it has more parts, or a value is not UTF-8
 abbrev pub name_text : List ℕ → Option (List ℕ)
 name_text der = parts_in der >>= text_if

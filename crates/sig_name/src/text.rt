@@ -12,9 +12,9 @@ use std::alloc::Global;
 /// How many parts a name may have that is shown as a text.
 pub const MOST_PARTS: usize = 64;
 
-/// Returns the text of a distinguished name (RFC 4514), of its DER: `CN=sigstore-intermediate,O=sigstore.dev`. `None` if
-/// the bytes are not a name of parts with one attribute each, whose types have names in section 3 and whose values are
-/// texts; and if there are more than [`MOST_PARTS`]. Fails only if out of memory.
+/// Returns the text of a distinguished name (RFC 4514), of its DER: `CN=sigstore-intermediate,O=sigstore.dev`. `None`
+/// if the bytes are not a name of parts with one attribute each, whose types have names in section 3 and whose values
+/// are texts; and if there are more than [`MOST_PARTS`]. Fails only if out of memory.
 pub fn name_text(alloc: Global, der: &[u8]) -> Result<Option<Text>, OutOfMemory>
     ensures { IfOk result (λ text. text ≡ name_text der.now) }
 {
@@ -93,7 +93,7 @@ fn push_first(out: &mut Vec<u8>, byte: u8) -> Result<(), OutOfMemory>
     push_escaped(out, byte)
 }
 
-/// Adds a byte of a value, escaped where it has to be wherever it stands.
+/// Adds a byte of a value, escaped if it has to be in every position.
 fn push_escaped(out: &mut Vec<u8>, byte: u8) -> Result<(), OutOfMemory>
     ensures { OnOk result (out.new.items ≡ out.old.items ++ escaped byte) }
 {
@@ -108,7 +108,7 @@ fn push_escaped(out: &mut Vec<u8>, byte: u8) -> Result<(), OutOfMemory>
     Ok(())
 }
 
-/// Whether a character is escaped wherever it stands (section 2.4).
+/// Whether a character is escaped in every position (section 2.4).
 fn is_special(byte: u8) -> bool
     ensures { result ≡ is_special byte }
 {

@@ -22,7 +22,7 @@ operation_word Prehash = codes "prehash"
 operation_word Point = codes "point"
 operation_word Certificate = codes "certificate"
 
--- the scheme of a row: a scheme's name for a message and a digest, none for a point, and an algorithm element in
+-- the scheme of a row: a scheme's name for a message and a digest, nothing for a point, and an algorithm element in
 -- base64 for a certificate
 abbrev pub scheme_tree : Operation → List ℕ → Option Data
 scheme_tree Message scheme = Some (string scheme)
@@ -73,7 +73,7 @@ rows_size (row ∷ rows) = (1 + length (compact_text (row_tree row))) + rows_siz
 abbrev pub IsSchemeName : List ℕ → Type 0
 IsSchemeName scheme = (named : VerifyScheme) × (scheme ≡ name_of named)
 
--- a scheme of a row of this operation: a scheme's name for a message and a digest, none for a point, any bytes for a
+-- a scheme of a row of this operation: a scheme's name for a message and a digest, nothing for a point, any bytes for a
 -- certificate
 abbrev pub IsSchemeUnder : Operation → List ℕ → Type 0
 IsSchemeUnder Message scheme = IsSchemeName scheme
@@ -99,15 +99,15 @@ IsRowReadBack row = IsReadAs row_of (row_tree row) row
 abbrev pub room_beside : List ℕ → ℕ
 room_beside text = (most_bytes - length accepted_name) - length text
 
--- a list of signatures of at most `most` bytes, so many bytes of them, that a further one went into; none if it has no
--- room there
+-- a list of signatures of at most `most` bytes, with its number of bytes, that a further one was added to; `None` if it
+-- has no room there
 abbrev pub AddsRow : ℕ → Data → Data → ℕ → AcceptedRow → Option ℕ → Type 0
 AddsRow most old new size row None = most < size + rows_size (row ∷ []) + 1
 AddsRow most old new size row (Some sum) =
     (sum ≡ size + rows_size (row ∷ [])) × (sum < most) × (new ≡ with_last (row_tree row) old)
 
--- for private clauses: a list of these signatures, which is read back as them, and takes so many bytes except for its
--- closing bracket, for which there is room
+-- for private clauses: a list of these signatures, which is read back as them, and takes this number of bytes except
+-- for its closing bracket, for which there is room
 pub record IsListOf (most : ℕ) (rows : List AcceptedRow) (list : Data) (size : ℕ) : Type 0 where
   pub tree : list ≡ rows_tree rows
   pub back : IsReadAs (list_each row_of) (rows_tree rows) rows
@@ -115,7 +115,7 @@ pub record IsListOf (most : ℕ) (rows : List AcceptedRow) (list : Data) (size :
   pub room : size < most
   pub least : 2 ≤ most
 
--- the text of the document of these signatures, which is read back; none if it has more than `most` bytes
+-- the text of the document of these signatures, which is read back; `None` if it has more than `most` bytes
 abbrev pub IsDocumentOf : ℕ → List AcceptedRow → Option (List ℕ) → Type 0
 IsDocumentOf most rows None = most < length (rows_text rows)
 IsDocumentOf most rows (Some text) = (text ≡ rows_text rows) × (length text ≤ most) × IsReadBack rows

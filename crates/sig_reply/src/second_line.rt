@@ -1,4 +1,4 @@
-//! The second lines that several commands have: what a list of all entries is beside what was proved.
+//! The second lines that several commands have: how a list of all entries compares with what was proved.
 ghost use Rattle.std.specs.Prelude.{◌≡◌, IfOk};
 ghost use Rattle.sig_reply.specs.SecondLine.{collision_line, other_line};
 

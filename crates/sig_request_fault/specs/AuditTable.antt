@@ -21,7 +21,7 @@ head_table =
 unfoldable pub heads_table : Table
 heads_table = sized (is_between 1 256) head_table
 
--- a watched entry, under one of so many heads
+-- a watched entry, under one of this number of heads
 unfoldable pub watch_table : ℕ → Table
 watch_table count =
     record_table (
@@ -44,7 +44,7 @@ list_count (Some ds) = length ds
 abbrev pub head_count : Data → ℕ
 head_count d = list_count (member_in (codes "heads") d >>= list_of)
 
--- a request with so many heads
+-- a request with this number of heads
 abbrev pub audit_rows : ℕ → List Row
 audit_rows count =
     required_row (codes "heads") heads_table

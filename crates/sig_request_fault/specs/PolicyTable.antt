@@ -5,7 +5,7 @@ use Rattle.sig_table.specs.Chosen.{nothing_table, sized}
 use Rattle.sig_table.specs.Kinds.{text_table}
 use Rattle.sig_table.specs.Table.{Table, chosen, oneof_row, optional_row, required_row, member_in, record_table}
 
--- ---- a rule: one of `trigger`, `sha`, `name`, `repository`, `ref`, or `issuer`, alone or with `identity`
+-- ---- a rule: one of `trigger`, `sha`, `name`, `repository`, `ref`, or `issuer`, with or without `identity`
 
 unfoldable pub workflow_names : List (List ℕ)
 workflow_names = codes "trigger" ∷ codes "sha" ∷ codes "name" ∷ codes "repository" ∷ codes "ref" ∷ []
@@ -17,7 +17,7 @@ asks_workflow d =
     || is_some (member_in (codes "name") d)) || is_some (member_in (codes "repository") d))
     || is_some (member_in (codes "ref") d)
 
--- one of them is there, and it is alone
+-- exactly one of them is there
 unfoldable pub workflow_table : Table
 workflow_table =
     record_table (
@@ -32,7 +32,7 @@ workflow_table =
     ∷ []
     )
 
--- none of them is there: the issuer has to be
+-- none of them is there, so the issuer has to be there
 unfoldable pub issuer_table : Table
 issuer_table = record_table (optional_row (codes "identity") text_table ∷ required_row (codes "issuer") text_table ∷ [])
 

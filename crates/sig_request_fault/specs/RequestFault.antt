@@ -9,7 +9,7 @@ use Rattle.sig_request_fault.specs.declared.fault.RequestFault.TheVariants.{TooL
 use Rattle.sig_table.specs.DocumentFault.{IsFaultIn, fault_in}
 use Rattle.sig_table.specs.Table.{Table}
 
--- that it has too many bytes, or what is wrong with it as a document of the table
+-- a text has too many bytes, or this is wrong with it as a document of the table
 unfoldable pub request_fault_in : Table → List ℕ → Option RequestFault
 request_fault_in table text =
     if nat_lt most_bytes (length text) then Some TooLong else option_map Document (fault_in table text)

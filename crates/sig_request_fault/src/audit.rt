@@ -89,7 +89,7 @@ fn few_watches(alloc: Global, json: Json<'_, '_>, count: usize) -> Result<(), Ta
     watches(alloc, json, count)
 }
 
-/// Checks a list of watched entries, each of them under one of so many heads.
+/// Checks a list of watched entries, each of them under one of this number of heads.
 #[tactic(auto, using(sig_table::proofs::Elements::elements))]
 fn watches(alloc: Global, json: Json<'_, '_>, count: usize) -> Result<(), TableError>
     ensures { Answers TableError.OutOfMemory (λ x. x) result
@@ -110,7 +110,7 @@ fn watches(alloc: Global, json: Json<'_, '_>, count: usize) -> Result<(), TableE
     Ok(())
 }
 
-/// Checks a watched entry, which is under one of so many heads.
+/// Checks a watched entry, which is under one of this number of heads.
 #[tactic(auto, using(sig_table::proofs::Steps::steps), unfolding(crate::specs::AuditTable::watch_table))]
 fn watch(alloc: Global, json: Json<'_, '_>, count: usize) -> Result<(), TableError>
     ensures { Answers TableError.OutOfMemory (λ x. x) result

@@ -1,4 +1,4 @@
-//! That the tables are those of the requests. It has no code.
+//! The tables are those of the requests. There is no code here.
 ghost use Rattle.sig_request.specs.AuditRequest.{audit_request};
 ghost use Rattle.sig_request.specs.ConsistencyRequest.{consistency_request};
 ghost use Rattle.sig_request.specs.Policy.{request_policy_of};

@@ -1,5 +1,5 @@
-//! What is wrong with a text that has to be a request of `log`, `verify`, `consistency` or `audit`: the first member that
-//! breaks the table of the command.
+//! What is wrong with a text that has to be a request of `log`, `verify`, `consistency` or `audit`: the first member
+//! that breaks the table of the command.
 //!
 //! ```text
 //! rootHash                      absent
@@ -11,12 +11,12 @@
 //! ```
 //!
 //! The layer above uses two facts. Nothing is wrong with a text if and only if it is a request of the command. And of a
-//! text that is not one, the fault is that it has more than 2^24 bytes; else that it is not JSON, or has a float; else the
-//! first member in the order of the table, which is that of docs/REQUESTS.md, whatever the order in the text.
+//! text that is not one, the fault is that it has more than 2^24 bytes; else that it is not JSON, or has a float; else
+//! the first member in the order of the table, which is that of docs/REQUESTS.md, whatever the order in the text.
 //!
-//! The readers of requests keep no member's name: this is a second pass over the text, for a caller that has to tell
-//! what is wrong with it. It takes linear time, and the memory of a borrowed document. `laws` says that the tables are
-//! those of the requests.
+//! The readers of requests do not keep a member's name: this is a second pass over the text, for a caller that has to
+//! tell what is wrong with it. It takes linear time, and the memory of a borrowed document. `laws` says that the tables
+//! are those of the requests.
 #![tactic(auto)]
 
 mod audit;

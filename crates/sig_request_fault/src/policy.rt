@@ -47,7 +47,7 @@ fn asks_workflow(json: Json<'_, '_>) -> bool
         || member(json, "ref").is_some()
 }
 
-/// A rule about the workflow: one member alone.
+/// Checks a rule about the workflow: exactly one member.
 #[tactic(auto, using(sig_table::proofs::Steps::steps), unfolding(crate::specs::PolicyTable::workflow_table))]
 fn workflow_rule(alloc: Global, json: Json<'_, '_>) -> Result<(), TableError>
     ensures { Answers TableError.OutOfMemory (λ x. x) result (or_fault (fault_of workflow_table (tree json.entry))) }
@@ -63,7 +63,7 @@ fn workflow_rule(alloc: Global, json: Json<'_, '_>) -> Result<(), TableError>
     optional::<Nothing>(alloc, json, "issuer")
 }
 
-/// The row of the members about the workflow: one at most is there.
+/// The row of the members about the workflow: at most one is there.
 #[tactic(auto, unfolding(crate::specs::PolicyTable::workflow_names))]
 fn one_of_workflow(alloc: Global, json: Json<'_, '_>) -> Result<(), TableError>
     ensures { Answers TableError.OutOfMemory (λ x. x) result
@@ -72,7 +72,7 @@ fn one_of_workflow(alloc: Global, json: Json<'_, '_>) -> Result<(), TableError>
     at_most_one(alloc, json, &WORKFLOW)
 }
 
-/// A rule about the issuer, with an identity or alone.
+/// Checks a rule about the issuer, with or without an identity.
 #[tactic(auto, unfolding(crate::specs::PolicyTable::issuer_table))]
 fn issuer_rule(alloc: Global, json: Json<'_, '_>) -> Result<(), TableError>
     ensures { Answers TableError.OutOfMemory (λ x. x) result (or_fault (fault_of issuer_table (tree json.entry))) }

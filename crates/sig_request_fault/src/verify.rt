@@ -48,8 +48,8 @@ impl MemberTable for VerifyTable {
 
 /// Returns what is wrong with a text that has to be a request of `verify`, or `None` if and only if it is one: that it
 /// has more than 2^24 bytes; else that it is not JSON, or has a float; else the first member that breaks the table, in
-/// its order. The texts of trusted root and bundle are texts; whether they are read is not asked. Fails only if out of
-/// memory.
+/// its order. The texts of trusted root and bundle are texts; whether they can be read is not checked. Fails only if
+/// out of memory.
 pub fn verify_request_fault(alloc: Global, text: &[u8]) -> Result<Option<RequestFault>, OutOfMemory>
     ensures value { IfOk result (λ found. found ≡ request_fault_in verify_table text.now) }
     ensures first { IfOk result (IsRequestFault verify_table text.now) }

@@ -10,11 +10,11 @@ use Rattle.sig_dsse.specs.declared.artifact_digest.ArtifactDigest.{ArtifactDiges
 use Rattle.sig_json.specs.Data.{Data, string}
 use Rattle.sig_shown.specs.UtcText.{utc_text}
 
--- how many bytes of a text are shown at most
+-- the greatest number of bytes of a text that are shown
 abbrev pub most_shown : ℕ
 most_shown = 1024
 
--- the text, or as many of its first characters as have at most so many bytes
+-- the text, or as many of its first characters as have at most this many bytes
 unfoldable pub shown : List ℕ → List ℕ
 shown text = if nat_le (length text) most_shown then text else take (floor_char_boundary text most_shown) text
 

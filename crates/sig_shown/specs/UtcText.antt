@@ -39,7 +39,7 @@ clock_at clock = (clock / 3600, clock % 3600 / 60, clock % 60)
 unfoldable pub text_at : ℕ × ℕ × ℕ → ℕ × ℕ × ℕ → List ℕ
 text_at date clock = front_text (moment_of date.0 (date.1, date.2) clock) ++ 90 ∷ []
 
--- the text so many seconds after the first
+-- the text of this number of seconds after the first
 unfoldable pub text_after : ℕ → List ℕ
 text_after since = text_at (date_at (day_count (pos 1) 1 1 + since / 86400)) (clock_at (since % 86400))
 
@@ -47,6 +47,6 @@ text_after since = text_at (date_at (day_count (pos 1) 1 1 + since / 86400)) (cl
 unfoldable pub second_text : ℤ → List ℕ
 second_text second = text_after (unsigned_abs (second -ℤ first_second))
 
--- the text of a second; none where the year is not one of 1 to 9999
+-- the text of a second; `None` if the year is not one of 1 to 9999
 unfoldable pub utc_text : ℤ → Option (List ℕ)
 utc_text second = if int_le first_second second && int_le second last_second then Some (second_text second) else None

@@ -51,7 +51,7 @@ impl Shown for ShownCount {
     }
 }
 
-/// The elements at the front, at most so many.
+/// Returns the elements at the front, at most `most`.
 pub fn first<T>(items: &[T], most: usize) -> &[T]
     ensures { result.now ≡ take most items.now }
 {

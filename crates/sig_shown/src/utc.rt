@@ -19,8 +19,8 @@ const LAST_SECOND: i64 = 253_402_300_799;
 /// The days from -9999-01-01 to 0001-01-01.
 const FIRST_DAY: u32 = 3_652_425;
 
-/// A second since 1970 as a text of RFC 3339 section 5.6, in UTC: YYYY-MM-DDTHH:MM:SSZ. `None` if and only if its year is
-/// not one of 1 to 9999. Fails only if out of memory.
+/// A second since 1970 as a text of RFC 3339 section 5.6, in UTC: YYYY-MM-DDTHH:MM:SSZ. `None` if and only if its year
+/// is not one of 1 to 9999. Fails only if out of memory.
 #[tactic(auto, using(crate::proofs::UtcTexts::utc_texts))]
 pub(crate) fn utc_text(alloc: Global, second: &i64) -> Result<Option<Text>, OutOfMemory>
     ensures text { IfOk result (λ text. text ≡ utc_text second.now) }
@@ -46,7 +46,7 @@ fn written(alloc: Global, second: &i64) -> Result<Text, OutOfMemory>
     Ok(Text::from(format!(in alloc; "{text}Z")?))
 }
 
-/// The date and the time of day so many seconds after 0001-01-01T00:00:00.
+/// The date and the time of day this number of seconds after 0001-01-01T00:00:00.
 fn moment_after(since: u64) -> DateTime
     requires { since < 315_537_897_600 }
     ensures day { day_count result.date.year result.date.month result.date.day

@@ -8,7 +8,7 @@ use sig_base::{OutOfMemory, sha256};
 use sig_json::Object;
 use std::alloc::Global;
 
-/// How many bytes of a text are shown at most.
+/// The greatest number of bytes of a text that are shown.
 pub const MOST_SHOWN: usize = 1024;
 
 /// The object with a number as a member. Fails only if out of memory.

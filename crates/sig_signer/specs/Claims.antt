@@ -1,4 +1,4 @@
--- *Claims*: what Fulcio's extensions say of a signer: texts themselves, and no DER
+-- *Claims*: what Fulcio's extensions say of a signer: plain texts, not DER
 -- (https://github.com/sigstore/fulcio/blob/main/docs/oid-info.md). Of several extensions of one object identifier the
 -- first counts.
 use Rattle.std.specs.Prelude.{ℕ, List, [], ◌∷◌, Option, Some, None, option_map, Result, Ok}
@@ -17,7 +17,7 @@ abbrev pub first_of : List Extension → Option Extension
 first_of [] = None
 first_of (e ∷ es) = Some e
 
--- no extension, or one whose value is UTF-8
+-- the extension is absent, or its value is UTF-8
 abbrev pub claim_of : Option Extension → Result (Option (List ℕ)) SigstoreError
 claim_of None = Ok None
 claim_of (Some e) = ok_or (option_map (λ t. Some t) (utf8_text e.value)) X509Error

@@ -11,7 +11,7 @@ IsSingle [] = ⊤
 IsSingle (e ∷ []) = ⊤
 IsSingle (e ∷ f ∷ es) = ⊥
 
--- of each of Fulcio's six identifiers there is at most one extension
+-- there is at most one extension of each of Fulcio's six identifiers
 abbrev pub HasSingleClaims : Cert → Type 0
 HasSingleClaims c = (number : ℕ) → 1 ≤ number → number ≤ 6 → IsSingle (with_oid (fulcio number) c.extensions)
 

@@ -16,7 +16,7 @@ pub record HasNames (c : Cert) (names : List Name) : Type 0 where
   pub one : with_oid subject_alternative_name c.extensions ≡ extension ∷ []
   pub are : general_names_of extension.value ≡ Some names
 
--- neither an email nor a URI. Both are ASCII (IA5String), and so UTF-8
+-- the name is neither an email nor a URI. Both are ASCII (IA5String), and so UTF-8
 abbrev pub IsNobody : Name → Type 0
 IsNobody (Email text) = ¬ IsUtf8 text
 IsNobody (Uri text) = ¬ IsUtf8 text

@@ -19,7 +19,7 @@ claim_text (Some text) = named_text (codes "Some") text
 abbrev pub line_text : List ℕ → List ℕ → List ℕ
 line_text label value = codes "- " ++ (label ++ (codes ": " ++ (value ++ codes "\n")))
 
--- who is named, and by whose word
+-- the named subject and issuer
 abbrev pub person_text : Signer → List ℕ
 person_text s =
     line_text (codes "issuer") (claim_text s.issuer) ++ line_text (codes "subject") (subject_text s.subject)

@@ -1,4 +1,4 @@
--- *Signer*: who signed, by the word of a certificate: its key, its subject and its claims, where a pool finds its issuer
+-- *Signer*: the signer that a certificate names: its key, its subject and its claims, if a pool finds its issuer
 -- and it passes the checks of a certificate that signed.
 use Rattle.std.specs.Prelude.{◌≡◌, ◌⊎◌, ℕ, ℤ, List, Option, Some, None, Result, Ok, Err}
 use Rattle.sig_base.specs.ResultSteps.{◌>>=◌}
@@ -98,7 +98,7 @@ signer_answer accepts pool c at now = do
 abbrev pub IsUnreadable : List ℕ → Type 0
 IsUnreadable der = (c : Cert) → ¬ IsCertificate der c
 
--- what is meant of the bytes: that of the certificate that they are, or that they are none
+-- the result for the bytes: that of the certificate that they are, or that they are not one
 abbrev pub IsSignerOf : Accepts → Pool → List ℕ → ℤ → ℤ → Result Signer SigstoreError → Type 0
 IsSignerOf accepts pool der at now meant =
     OfCertificate der (λ c. signer_answer accepts pool c at now ≡ meant) ⊎ (IsUnreadable der × (meant ≡ Err X509Error))

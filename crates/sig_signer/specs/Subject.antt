@@ -14,7 +14,7 @@ use Rattle.sig_policy.specs.Texts.{utf8_text}
 use Rattle.sig_signer.specs.declared.subject.CertificateSubject.{CertificateSubject}
 use Rattle.sig_signer.specs.declared.subject.CertificateSubject.TheVariants.{Email as ByEmail, Uri as ByUri}
 
--- the names of the only extension; absent where there is none, where there are several, and where it is malformed
+-- the names of the only extension; absent if there is none, if there are several, and if it is malformed
 abbrev pub only_names : List Extension → Option (List Name)
 only_names [] = None
 only_names (e ∷ []) = general_names_of e.value

@@ -14,15 +14,15 @@ use sig_key::CosignVerificationKey;
 use sig_x509::{Certificate, CertificatePool, X509ReadError, is_trusted, uncounted};
 use std::alloc::Global;
 
-/// Who signed, by the word of a certificate from which a path leads to a trust anchor, and that was valid when a log
-/// took the signature. Whether its key signed anything is not asked.
+/// The signer that a certificate names, from which a path leads to a trust anchor, and which was valid when a log
+/// took the signature. Whether its key signed anything is not checked.
 #[derive(Drop)]
 pub struct CertificateSignature {
     /// The certificate's key.
     pub verification_key: CosignVerificationKey,
     /// Whom it names.
     pub subject: CertificateSubject,
-    /// Who says so: the issuer of the token that the certificate was issued for.
+    /// The issuer of the token that the certificate was issued for.
     pub issuer: Option<Text>,
     /// What triggered the GitHub workflow (1.3.6.1.4.1.57264.1.2).
     pub github_workflow_trigger: Option<Text>,
@@ -42,8 +42,8 @@ impl CertificateSignature {
     ///
     /// Errors, the first that applies:
     /// - `X509Error`: the bytes are not a certificate (RFC 5280 section 4.1);
-    /// - `CertificatePoolError` of `Malformed` or `VerificationFailed`: the pool finds no issuer of it at the first second
-    ///   of its validity, as [`CertificatePool::verify_cert_with_time`] says;
+    /// - `CertificatePoolError` of `Malformed` or `VerificationFailed`: the pool finds no issuer of it at the first
+    ///   second of its validity, as [`CertificatePool::verify_cert_with_time`] says;
     /// - those of [`is_trusted`]: key usages, one subject alternative name, validity by now and at the integrated time;
     /// - those of [`CertificateSubject::from_certificate`];
     /// - `X509Error`: its key is of a kind that no signature is checked with, or the first extension of one of Fulcio's
@@ -62,7 +62,7 @@ impl CertificateSignature {
             integrated_time now (Ok (seen_signer s))) }
         ensures err { IfErr result (λ e. OrMemory Memory e (IsSignerOf (C.cert_accepts checker.now)
             fulcio_cert_pool.now cert_der.now integrated_time now (Err e))) }
-        // What is meant comes, unless memory ran out.
+        // The result is this one, unless memory ran out.
         ensures only { (meant : result_type signer_type refusal_type)
             → IsSignerOf (C.cert_accepts checker.now) fulcio_cert_pool.now cert_der.now integrated_time now meant
             → Answers Memory seen_signer result meant }
@@ -84,7 +84,7 @@ impl CertificateSignature {
     }
 }
 
-/// Who signed, by the word of this certificate.
+/// Returns the signer that this certificate names.
 fn signer_of<C: SignatureChecker>(
     alloc: Global,
     certificate: &Certificate,
@@ -128,7 +128,7 @@ pub fn pool_error(error: PoolError) -> SigstoreError
     }
 }
 
-/// Key, subject and claims of a certificate.
+/// Returns the key, subject and claims of a certificate.
 #[tactic(auto, unfolding(crate::specs::Signer::certified_answer))]
 fn certified(alloc: Global, certificate: &Certificate) -> Result<CertificateSignature>
     ensures { Answers Memory seen_signer result (certified_answer certificate.now) }

@@ -9,8 +9,9 @@ ghost use Rattle.sig_x509.specs.Pool.{Pool};
 
 use crate::subject::CertificateSubject;
 
-/// What a signer shows of issuer and workflow is what the policies of sig_policy compare, if the certificate has at most
-/// one extension of each of Fulcio's six object identifiers. Of several, the first is shown, and a policy fails.
+/// The issuer and workflow that a signer shows are what the policies of sig_policy compare, if the certificate has at
+/// most one extension of each of Fulcio's six object identifiers. If there are several, the first is shown, and a
+/// policy fails.
 pub fn claims_are_compared()
     ensures { (accepts : Accepts) (pool : Pool) (c : Cert) (at now : ℤ) (s : signer_type) → HasSingleClaims c
         → signer_answer accepts pool c at now ≡ Ok s → IsAsCompared s (extension_values_of c) }

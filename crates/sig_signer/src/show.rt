@@ -33,7 +33,7 @@ impl fmt::Display for CertificateSubject {
 }
 
 /// Shows a line for each claim and for the subject. Texts are shown unescaped, so a claim can look like several lines:
-/// no program is to read it.
+/// it is not for programs to read.
 impl fmt::Display for CertificateSignature {
     ghost output = { λ s. Some (signer_text (seen_signer s)) };
 
@@ -56,7 +56,7 @@ fn write_named<W: fmt::Write>(f: &mut fmt::Formatter<W>, kind: &str, text: &str)
     f.write_str("\")")
 }
 
-/// Who is named, and by whose word.
+/// Writes the named subject and issuer.
 fn write_person<W: fmt::Write>(
     f: &mut fmt::Formatter<W>,
     signer: &CertificateSignature,

@@ -39,7 +39,7 @@ impl CertificateSubject {
             (HasSubject certificate.now subject) }
         // There is not one well-formed extension.
         ensures malformed { ComesWhere Memory result (Err CertificateParsingError) (HasNoNames certificate.now) }
-        // There is, and none of its names is an email or a URI.
+        // There is one, and none of its names is an email or a URI.
         ensures incomplete { ComesWhere Memory result (Err CertificateWithIncompleteSubjectAlternativeName)
             (NamesNobody certificate.now) }
         // The same in one equation.

@@ -38,7 +38,7 @@ pub record IsProofOf (api : RekorInclusionProof) (fields : ProofFields) : Type 0
   pub hashes : AreDecoded api.hashes fields.hashes
   pub checkpoint : fields.checkpoint ≡ Some api.checkpoint
 
--- a proof is there on both sides or on none
+-- both sides have a proof, or neither has
 abbrev pub IsOptionalProofOf : Option RekorInclusionProof → Option ProofFields → Type 0
 IsOptionalProofOf None None = ⊤
 IsOptionalProofOf (Some api) (Some fields) = IsProofOf api fields

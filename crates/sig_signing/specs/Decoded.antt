@@ -1,4 +1,4 @@
--- *Texts that stand for bytes* in Rekor's API, of any length: hexadecimal digits in either case (RFC 4648 section 8),
+-- *Texts that encode bytes* in Rekor's API, of any length: hexadecimal digits in either case (RFC 4648 section 8),
 -- padded base64 (RFC 4648 section 4), and the canonical JSON (RFC 8785) of a body.
 use Rattle.std.specs.Prelude.{ℕ, List, Option, Result, Ok, Err}
 use Rattle.std.specs.Option.{ok_or}
@@ -9,14 +9,14 @@ use Rattle.sig_json_text.specs.declared.error.CanonicalError.{CanonicalError}
 use Rattle.sig_signing.specs.declared.conversion_error.ConversionError.{ConversionError}
 use Rattle.sig_signing.specs.declared.conversion_error.ConversionError.TheVariants.{Refused}
 
--- the bytes that digits are, none of another text
+-- the bytes that digits are, `None` for another text
 unfoldable pub hex_bytes : List ℕ → Option (List ℕ)
 hex_bytes text = result_ok (decode_of text)
 
 abbrev pub hex_or_refused : List ℕ → Result (List ℕ) ConversionError
 hex_or_refused text = ok_or (hex_bytes text) Refused
 
--- the same of a text in a list, whatever its index
+-- the same for a text in a list, whatever its index
 abbrev pub hex_at : ℕ → List ℕ → Result (List ℕ) ConversionError
 hex_at index = hex_or_refused
 

@@ -1,4 +1,4 @@
-//! `SigningArtifact`: what was signed, the signature, and what shows whose it is.
+//! `SigningArtifact`: what was signed, the signature, and what shows its signer.
 ghost use Rattle.std.specs.Prelude.{◌≡◌, IfOk, [], ◌∷◌, Some};
 ghost use Rattle.sig_checked_bundle.specs.Version.{media_type};
 ghost use Rattle.sig_checked_bundle.specs.declared.version.Version.TheVariants.{Bundle0_2};
@@ -87,7 +87,7 @@ fn media_type(alloc: Global) -> Result<Text, OutOfMemory>
     Ok(Text::from(format!(in alloc; "{version}")?))
 }
 
-/// A chain of this certificate alone, and this log entry alone.
+/// A chain of only this certificate, and only this log entry.
 fn material(
     alloc: Global,
     cert: Bytes,

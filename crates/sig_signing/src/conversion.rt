@@ -21,13 +21,13 @@ use sig_rekor::RekorInclusionProof;
 use sig_rekor_models::LogEntry;
 use std::alloc::Global;
 
-/// Returns a log entry of Rekor's API as an entry of a bundle. Nothing is checked of it, neither a signature nor a
+/// Returns a log entry of Rekor's API as an entry of a bundle. Nothing in it is checked, neither a signature nor a
 /// length. The body is the canonical JSON (RFC 8785) of the entry's body; the promise, the log's id, the root and the
 /// hashes are the bytes that their texts stand for; a proof is there if and only if the entry has one, with its
 /// checkpoint's text, also where that is empty. The kind is `hashedrekord` of version `0.0.1`, whatever the body's.
 ///
 /// Fails with `Refused` if and only if one of these texts is not the hexadecimal digits or the padded base64 of bytes,
-/// the tree's size is not below 2^63, or the body holds an integer beyond plus or minus 2^53 - 1, unless memory runs
+/// the tree's size is not below 2^63, or the body holds an integer outside plus or minus 2^53 - 1, unless memory runs
 /// out.
 pub fn try_from_log_entry(
     alloc: Global,

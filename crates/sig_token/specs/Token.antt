@@ -1,5 +1,5 @@
 -- *Identity token*: the text of a token of Sigstore, what it says, and the first rule that another text breaks. Its
--- signature is part of the text, and nothing is asked of it.
+-- signature is part of the text, and is not checked.
 use Rattle.std.specs.Prelude.{◌≡◌, ◌≢◌, ℕ, List, codes, Some, None, Result, Ok, Err, if◌then◌else◌}
 use Rattle.std.specs.Option.{ok_or}
 use Rattle.std.specs.Str.{bytes_eq}

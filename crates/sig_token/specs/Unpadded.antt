@@ -9,6 +9,6 @@ use Rattle.base64.specs.GeneralPurpose.{encode_of, decode_of}
 unfoldable pub unpadded_text : List ℕ → List ℕ
 unpadded_text bytes = encode_of standard_no_pad bytes
 
--- the bytes of a text that is exactly such, none of any other
+-- the bytes of a text that is exactly such, `None` for any other
 unfoldable pub unpadded_bytes : List ℕ → Option (List ℕ)
 unpadded_bytes text = result_ok (decode_of standard_no_pad text)

@@ -30,11 +30,11 @@ pub struct Claims {
     pub email: Text,
 }
 
-/// Claims of a token whose signature is not checked: all claims here are such.
+/// Claims of a token whose signature is not checked: this holds of all claims here.
 pub type UnverifiedClaims = Claims;
 
 impl Claims {
-    /// Whether the claims hold at this second since 1970 by their own word: it is not before `nbf`, if that is there,
+    /// Whether the claims hold at this second since 1970 as they state it: it is not before `nbf`, if that is there,
     /// and before `exp`.
     pub(crate) fn hold_at(&self, now: i64) -> bool
         ensures { IsTrue result ↔ IsInPeriod self.now now }

@@ -1,4 +1,4 @@
-//! The three parts of a token: its header, its payload and its signature, with a point between each two (RFC 7515
+//! The three parts of a token: its header, its payload and its signature, joined by points (RFC 7515
 //! section 7.1, JWS Compact Serialization).
 ghost use Rattle.std.specs.Prelude.{◌≡◌, [], ◌∷◌, option_map, MatchOption};
 ghost use Rattle.std.specs.List.{slice_split};

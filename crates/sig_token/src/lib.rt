@@ -12,8 +12,8 @@
 //!
 //! The layer above uses three facts. A text is read as the token that it is if and only if it has three parts between
 //! points, the second of which is unpadded base64 of an object of claims whose audience is Sigstore; else the first of
-//! these that does not hold is told. A token is in its period at a time from its start, if it has one, to before its
-//! expiration. What is shown of a token is the text that it was read from.
+//! these that does not hold is the error. A token is in its period at a time from its start, if it has one, to before
+//! its expiration. What is shown of a token is the text that it was read from.
 #![tactic(auto)]
 
 mod claims;

@@ -35,7 +35,7 @@ impl Model for IdentityToken {
 }
 
 impl IdentityToken {
-    /// Reads a token of Sigstore. Who issued it is not asked, and nobody's signature is checked.
+    /// Reads a token of Sigstore. Neither its issuer nor its signature is checked.
     ///
     /// Errors, each an `IdentityTokenError`, the first that applies:
     /// - `NotThreeParts`: the text is not three parts with a point between each two (RFC 7515 section 7.1); a part may
@@ -48,7 +48,7 @@ impl IdentityToken {
         ensures found { IfOk result (λ token. (token.text ≡ value.now) × IsToken value.now token.claims) }
         ensures only { (claims : claims_type) → IsToken value.now claims → UnlessMemory Memory result
             (result ≡ Ok (record { text = value.now; claims = claims })) }
-        // Each error comes if and only if the rules before its own hold, and its own does not.
+        // Each error comes if and only if the rules before its own hold, and its own does not hold.
         ensures refused { (fault : fault_type)
             → ComesWhere Memory result (Err (Refusal fault)) (IsTokenFault value.now fault) }
         // The same in one equation.
@@ -64,7 +64,7 @@ impl IdentityToken {
         &self.claims
     }
 
-    /// Whether the token counts at this second since 1970 by its own word: from `nbf`, if it is there, to the second
+    /// Whether the token counts at this second since 1970 as it states it: from `nbf`, if it is there, to the second
     /// before `exp`.
     pub fn in_validity_period(&self, now: i64) -> bool
         ensures { IsTrue result ↔ IsInPeriod self.now.claims now }

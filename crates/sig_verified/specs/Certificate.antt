@@ -27,7 +27,7 @@ name_rows (Other kind value) =
     ∷ some_rows (codes "value") (codes "valueLength") (utf8_text value)
 name_rows Unread = []
 
--- a name: of one that is not read nothing is shown
+-- a name; nothing is shown of one that is not read
 unfoldable pub name_tree : Name → Data
 name_tree name = object_of (name_rows name)
 

@@ -1,4 +1,4 @@
--- An envelope as it is shown: of its payload, a statement, the type of the predicate and the subjects (in-toto
+-- An envelope as it is shown: the predicate type and the subjects of its payload, a statement (in-toto
 -- attestation framework, "Statement layer specification v1").
 use Rattle.std.specs.Prelude.{ℕ, List, [], ◌∷◌, ◌++◌, codes, length, take, Option, Some, None}
 use Rattle.std.specs.Result.{result_ok}
@@ -33,13 +33,13 @@ statement_of d = do
 abbrev pub statement_names : List (List ℕ)
 statement_names = codes "subject" ∷ codes "predicateType" ∷ []
 
--- of a payload; none where it is not a statement
+-- what is shown of a payload; `None` if it is not a statement
 abbrev pub statement_in : List ℕ → Option BriefStatement
 statement_in payload = result_ok (record_with statement_names statement_of payload)
 
 -- ---- what is shown
 
--- how many digests of a subject, and how many subjects, are shown at most: as many as a bundle's own checks allow
+-- the greatest numbers of digests of a subject, and of subjects, that are shown: as many as a bundle's own checks allow
 abbrev pub most_digests : ℕ
 most_digests = 32
 
@@ -82,7 +82,7 @@ envelope_tree envelope =
     (shown_rows (codes "payloadType") (codes "payloadTypeLength") envelope.payload_type
     ++ ((codes "payloadSha256", Some (sha256_tree envelope.payload)) ∷ statement_rows (statement_in envelope.payload)))
 
--- a signature over an artifact has none
+-- a signature over an artifact does not have an envelope
 abbrev pub envelope_in : Option Content → Option Data
 envelope_in None = None
 envelope_in (Some (Message _)) = None

@@ -16,7 +16,7 @@ use Rattle.sig_verified.specs.Certificate.{certificate_tree}
 use Rattle.sig_verified.specs.Statement.{envelope_in}
 use Rattle.sig_verified.specs.declared.run.VerifiedRun.{VerifiedRun}
 
--- who issued the certificate: the trust anchor, or the further certificate of the bundle, at this index
+-- the issuer of the certificate: the trust anchor, or the further certificate of the bundle, at this index
 unfoldable pub issuer_tree : Issuer → Data
 issuer_tree (Anchor place) = object_of (count_row (codes "anchor") place ∷ [])
 issuer_tree (Intermediate place) = object_of (count_row (codes "further") place ∷ [])

@@ -1,13 +1,13 @@
-//! What was verified of a bundle, as JSON: what an explanation says where every link of the chain of trust holds.
+//! What was verified for a bundle, as JSON: what an explanation says if every link of the chain of trust holds.
 //!
 //! ```text
 //! {"certificate":{..},"digest":{"sha256":".."},"envelope":{..},"issuedBy":{"anchor":"1"},"policy":{..},
 //!  "sct":{..},"tlogEntry":{..}}
 //! ```
 //!
-//! The layer above uses one fact. [`verified`] makes the object of a bundle, of who issued its certificate, of the proof of
-//! its log entry, of the digest and of the policy, a total function of these; that they were verified is the caller's
-//! word. Nobody needs more of the bundle but, of an envelope, its payload, whose SHA-256 is shown.
+//! The layer above uses one fact. [`verified`] makes the object of a bundle, of who issued its certificate, of the
+//! proof of its log entry, of the digest and of the policy, a total function of these; that they were verified is the
+//! caller's word. Nobody needs more of the bundle but, of an envelope, its payload, whose SHA-256 is shown.
 #![tactic(auto)]
 
 mod certificate;

@@ -12,7 +12,7 @@ use sig_json::{Document, Object};
 use sig_shown::with_some;
 use std::alloc::Global;
 
-/// How many names of a certificate are shown at most.
+/// The greatest number of names of a certificate that are shown.
 pub const MOST_NAMES: usize = 64;
 
 /// The first [`MOST_NAMES`] names, in order. Fails only if out of memory.

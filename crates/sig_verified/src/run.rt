@@ -26,7 +26,7 @@ pub struct VerifiedRun<'a> {
     pub bundle: &'a Bundle,
     /// The same as it was checked.
     pub checked: &'a CheckedBundle,
-    /// Who issued its certificate.
+    /// The issuer of its certificate.
     pub issuer: Issuer,
     /// The proof of its log entry.
     pub proof: &'a InclusionProof,
@@ -38,14 +38,15 @@ pub struct VerifiedRun<'a> {
 
 /// The object of what was verified. Its members are
 ///
-/// - `certificate`: its `names`, `serialNumber`, `sha256`, `notBefore` and `notAfter`, and what Fulcio's extensions say;
-/// - `issuedBy`: `anchor` or `further`, the index of the trust anchor, or of the further certificate of the bundle, that
-///   issued it;
+/// - `certificate`: its `names`, `serialNumber`, `sha256`, `notBefore` and `notAfter`, and what Fulcio's extensions
+///   say;
+/// - `issuedBy`: `anchor` or `further`, the index of the trust anchor, or of the further certificate of the bundle,
+///   that issued it;
 /// - `sct`: the `logId`, the `timestamp` and the `time` of its SCT;
 /// - `tlogEntry`: the `logId`, the `logIndex` and the `integratedTime` of the log's entry, and its `inclusionProof`;
 /// - `digest`: that of the artifact;
-/// - `envelope`, unless the signature is over the artifact: the `payloadType`, the `payloadSha256`, and of the statement
-///   the `predicateType`, the `subjects` and the `subjectCount`;
+/// - `envelope`, unless the signature is over the artifact: the `payloadType`, the `payloadSha256`, and of the
+///   statement the `predicateType`, the `subjects` and the `subjectCount`;
 /// - `policy`: which of its rules hold.
 ///
 /// Fails only if out of memory.
@@ -75,7 +76,7 @@ fn with_issuer(
     object.with(alloc, name, value)
 }
 
-/// Who issued a certificate.
+/// Returns the issuer of a certificate as an object.
 #[tactic(auto, unfolding(crate::specs::Verified::issuer_tree))]
 fn issuer_document(alloc: Global, issuer: Issuer) -> Result<Document, OutOfMemory>
     ensures { IfOk result (λ document. document_tree document ≡ issuer_tree issuer) }

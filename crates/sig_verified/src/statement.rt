@@ -15,7 +15,7 @@ use sig_json::{
 use sig_shown::{Shown, first, with_count, with_list, with_shown};
 use std::alloc::Global;
 
-/// How many digests of a subject are shown at most.
+/// The greatest number of digests of a subject that are shown.
 pub const MOST_DIGESTS: usize = 32;
 
 /// How many subjects are shown at most.
@@ -138,8 +138,8 @@ fn named_digest_document(alloc: Global, name: &str, value: &str) -> Result<Docum
     Ok(object.into_document())
 }
 
-/// The object with what is shown of the statement that a payload is: `predicateType`, `subjects` and `subjectCount`; of a
-/// subject its `name` and its `digests`. Without more if the payload is not a statement. Fails only if out of memory.
+/// The object with what is shown of the statement that a payload is: `predicateType`, `subjects` and `subjectCount`; of
+/// a subject its `name` and its `digests`. Without more if the payload is not a statement. Fails only if out of memory.
 pub(crate) fn with_statement(
     object: Object,
     alloc: Global,

@@ -1,4 +1,4 @@
-//! That the table is that of the requests. It has no code.
+//! The table is that of the requests. There is no code here.
 ghost use Rattle.sig_table.specs.TableOf.{IsTableOf};
 ghost use Rattle.sig_witness_command.specs.Request.{witness_request};
 ghost use Rattle.sig_witness_fault.specs.WitnessTable.{witness_table};

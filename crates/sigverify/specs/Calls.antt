@@ -18,16 +18,16 @@ abbrev pub Tells : Option (List Outcome) → Option (List Outcome) → Outcome �
 Tells None new outcome = ⊤
 Tells (Some before) new outcome = new ≡ Some (before ++ outcome ∷ [])
 
--- so many calls that were interrupted
+-- this number of calls that were interrupted
 abbrev pub interrupted : ℕ → List Outcome
 interrupted count = replicate count (Some Interrupted)
 
--- so many calls were made, and each was interrupted
+-- this number of calls were made, and each was interrupted
 abbrev pub WereInterrupted : Option (List Outcome) → Option (List Outcome) → ℕ → Type 0
 WereInterrupted None new count = ⊤
 WereInterrupted (Some before) new count = new ≡ Some (before ++ interrupted count)
 
--- The calls that were made, where they are told: some that were interrupted, none or more, and then one that came to
+-- The calls that were made, where they are told: any number that were interrupted, and then one that came to
 -- this; that one was interrupted only if it was the last of 2^64 - 1 calls.
 abbrev pub AreMadeUntil : Option (List Outcome) → Option (List Outcome) → Outcome → Type 0
 AreMadeUntil None new outcome = ⊤

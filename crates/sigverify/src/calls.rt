@@ -38,7 +38,7 @@ pub trait WriteCalls {
         ensures told { Tells (calls self.old) (calls self.new) (outcome_of result) };
 }
 
-/// The calls of a reader or a writer of `std`, which tells none of them.
+/// The calls of a reader or a writer of `std`, which does not tell them.
 #[derive(Drop)]
 pub struct Calls<T: Drop> {
     pub inner: T,

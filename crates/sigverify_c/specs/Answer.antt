@@ -1,4 +1,4 @@
--- What a call gives back to C.
+-- What a call returns to C.
 use Rattle.std.specs.Prelude.{◌≡◌, ◌⊎◌, ℕ, ◌<◌, ◌≤◌, List, ◌++◌, drop, length}
 use Rattle.sig_program.specs.ExplainedReply.{IsExplained}
 use Rattle.sig_program.specs.Reply.{IsReply}

@@ -18,7 +18,7 @@ pub enum Numbered {
 }
 
 impl Numbered {
-    /// Returns what has the number; `None` if and only if nothing has it. It takes no memory.
+    /// Returns what has the number; `None` if and only if no command has it. It takes no memory.
     #[tactic(auto, using(crate::proofs::Numbers::numbers))]
     pub fn of(number: u32) -> Option<Numbered>
         ensures { MatchOption result (¬ IsNumber number) (HasNumber number) }

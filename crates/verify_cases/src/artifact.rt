@@ -1,4 +1,4 @@
-//! Bundles of artifacts that are handed in by their bytes, or by their SHA-256.
+//! Bundles of artifacts that are given by their bytes, or by their SHA-256.
 
 use crate::parts::Parts;
 use sig_base::{Bytes, MemorySource, Numbers};
@@ -6,7 +6,7 @@ use sig_cases::{Answer, Arguments};
 use sig_verify::{VerificationResult, Verifier};
 use std::alloc::Global;
 
-/// `verify NOW BYTES PIECE FAILING POLICY ROOT BUNDLE ROW ..`, of a source that gives the bytes in pieces, and whose
+/// `verify NOW BYTES PIECE FAILING POLICY ROOT BUNDLE ROW ..`, for a source that gives the bytes in pieces, and whose
 /// call with the number `FAILING` fails: `ok`, or the error.
 pub(crate) fn by_source(arguments: &mut Arguments<'_>, answer: &mut Answer) {
     let now = arguments.integer();
@@ -47,7 +47,7 @@ fn of_source(
     }
 }
 
-/// `verify_digest NOW DIGEST POLICY ROOT BUNDLE ROW ..`, of an artifact of this SHA-256: `ok`, or the error.
+/// `verify_digest NOW DIGEST POLICY ROOT BUNDLE ROW ..`, for an artifact of this SHA-256: `ok`, or the error.
 pub(crate) fn by_digest(arguments: &mut Arguments<'_>, answer: &mut Answer) {
     let now = arguments.integer();
     let digest = arguments.digest();

@@ -6,7 +6,7 @@ use sig_cases::{Answer, Arguments};
 use sig_questions::{NoQuestions, questions};
 use std::alloc::Global;
 
-/// `questions NOW DIGEST MOST ROOT BUNDLE`, of rows of at most so many bytes: `ok`, their operations in order, and the
+/// `questions NOW DIGEST MOST ROOT BUNDLE`, for rows of at most MOST bytes: `ok`, their operations in order, and the
 /// SHA-256 of all of them; or the name of the link that fails whatever is accepted, or `TooLong`.
 pub(crate) fn listed(arguments: &mut Arguments<'_>, answer: &mut Answer) {
     let now = arguments.integer();

@@ -5,7 +5,7 @@ use sig_cases::{Answer, Arguments};
 use sig_verify::{SigstoreTrustRoot, TrustRoot};
 use std::alloc::Global;
 
-/// `fulcio_certs NOW ROOT`, `rekor_keys NOW ROOT` and `ctfe_keys NOW ROOT`, of the text of a trusted root: `ok`, how
+/// `fulcio_certs NOW ROOT`, `rekor_keys NOW ROOT` and `ctfe_keys NOW ROOT`, for the text of a trusted root: `ok`, how
 /// many there are, and all; or the error.
 pub(crate) fn at(call: &str, arguments: &mut Arguments<'_>, answer: &mut Answer) {
     let now = arguments.integer();

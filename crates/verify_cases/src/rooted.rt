@@ -1,4 +1,4 @@
-//! Bundles and log entries under a trust root that is handed in.
+//! Bundles and log entries under a given trust root.
 
 use crate::parts::{self, Parts, keys};
 use crate::verified::{digest, known};

@@ -18,8 +18,8 @@ pub(crate) struct Update {
 /// Updates in order.
 pub(crate) type Updates = OwnedList<Update>;
 
-/// The next arguments as updates: how many there are, and of each how often it is made, its checkpoint, its old size and
-/// its hashes.
+/// The next arguments as updates: how many there are, and for each how often it is made, its checkpoint, its old size
+/// and its hashes.
 pub(crate) fn updates(arguments: &mut Arguments<'_>, answer: &mut Answer) -> Updates {
     let mut updates = Updates::new(arguments.alloc());
     let count = arguments.natural();

@@ -6,7 +6,7 @@ use sig_cases::{Answer, Arguments};
 use sig_witness::Witness;
 use std::alloc::Global;
 
-/// `run STATE ORIGINS UPDATES ROWS`: of the witness of a text, which `-` is without origins, what it returns for each
+/// `run STATE ORIGINS UPDATES ROWS`: for the witness of a text, which `-` is without origins, what it returns for each
 /// origin that is added and for each update, under a checker of these rows; after each update how SHA-256 of its text
 /// begins, once that text was read and written again; and at the end the text.
 pub(crate) fn ran(arguments: &mut Arguments<'_>, answer: &mut Answer) {
@@ -23,7 +23,7 @@ pub(crate) fn ran(arguments: &mut Arguments<'_>, answer: &mut Answer) {
     }
 }
 
-/// The next arguments as origins that are added: how many there are, and of each its text, its scheme and its key.
+/// The next arguments as origins that are added: how many there are, and for each its text, its scheme and its key.
 pub(crate) fn add_origins(
     arguments: &mut Arguments<'_>,
     answer: &mut Answer,

@@ -6,8 +6,8 @@ use sig_cases::{Answer, Arguments, Recorder};
 use sig_part_cases::pool;
 use sig_x509::uncounted;
 
-/// `asked TIME LEAF ANCHOR,.. INTERMEDIATE,.. ROW ..`: what `verify_cert_with_time` returns, and each key that the checker was asked
-/// about, in order.
+/// `asked TIME LEAF ANCHOR,.. INTERMEDIATE,.. ROW ..`: what `verify_cert_with_time` returns, and each key that the
+/// checker was asked about, in order.
 pub(crate) fn asked(arguments: &mut Arguments<'_>, answer: &mut Answer) {
     let time = arguments.integer();
     let leaf = certificate(arguments, answer);
@@ -22,7 +22,7 @@ pub(crate) fn asked(arguments: &mut Arguments<'_>, answer: &mut Answer) {
     recorder.keys_in(answer);
 }
 
-/// `der_asked TIME LEAF ANCHOR,.. INTERMEDIATE,.. ROW ..`: the same of `verify_der_cert`.
+/// `der_asked TIME LEAF ANCHOR,.. INTERMEDIATE,.. ROW ..`: the same for `verify_der_cert`.
 pub(crate) fn der_asked(arguments: &mut Arguments<'_>, answer: &mut Answer) {
     let time = arguments.integer();
     let leaf = arguments.hex();
@@ -37,8 +37,8 @@ pub(crate) fn der_asked(arguments: &mut Arguments<'_>, answer: &mut Answer) {
     recorder.keys_in(answer);
 }
 
-/// `questions TIME LEAF ANCHOR,.. INTERMEDIATE,.. ROW ..`: what `verify_cert_with_time` returns, and how many signatures
-/// the checker was asked about.
+/// `questions TIME LEAF ANCHOR,.. INTERMEDIATE,.. ROW ..`: what `verify_cert_with_time` returns, and how many
+/// signatures the checker was asked about.
 pub(crate) fn questions(arguments: &mut Arguments<'_>, answer: &mut Answer) {
     let time = arguments.integer();
     let leaf = certificate(arguments, answer);

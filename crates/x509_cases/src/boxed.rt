@@ -1,4 +1,4 @@
-//! Boxed policies of a type of this program, which [`AllOf`] and [`AnyOf`] know through the trait alone.
+//! Boxed policies of a type of this program, which [`AllOf`] and [`AnyOf`] know only through the trait.
 
 use crate::policy::listed;
 use sig_cases::{Answer, Arguments};
@@ -21,7 +21,7 @@ impl VerificationPolicy for Outside {
     }
 }
 
-/// What all or any of the policies of a list, of which `-` is the empty one, say over boxes.
+/// What all or any of the policies of a list, where `-` is the empty one, say over boxes.
 pub(crate) fn verify(
     list: &str,
     is_all: bool,
@@ -67,7 +67,7 @@ fn push(
     }
 }
 
-/// What all of the children say: that they hold, if there are none, of which [`AllOf`] is never made.
+/// What all of the children say: that they hold, if there are none: an empty [`AllOf`] cannot be made.
 fn verify_all(
     alloc: Global,
     children: Vec<Box<dyn VerificationPolicy>>,

@@ -59,7 +59,7 @@ pub(crate) fn found(arguments: &mut Arguments<'_>, answer: &mut Answer) {
     }
 }
 
-/// The next argument as a certificate. Refuses the line if it is none.
+/// The next argument as a certificate. The line is a `bad line` if it is not one.
 pub(crate) fn certificate(
     arguments: &mut Arguments<'_>,
     answer: &mut Answer,

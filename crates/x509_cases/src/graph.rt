@@ -65,7 +65,7 @@ impl SignatureChecker for KeyChecker {
     }
 }
 
-/// Why there is no graph: the line has none, or memory ran out.
+/// Why there is no graph: the line does not have one, or memory ran out.
 #[derive(Drop)]
 enum NoGraph {
     BadLine,
@@ -116,7 +116,7 @@ fn read(alloc: Global, word: &str) -> Result<Certificate, NoGraph> {
     certificate_of(alloc, &der)
 }
 
-/// The DER of a word: of the certificate that its letters spell; of `?` bytes that are none.
+/// The DER of a word: of the certificate that its letters spell; of `?` bytes that are not one.
 fn der_of(alloc: Global, word: &str) -> Result<Vec<u8>, NoGraph> {
     match Node::spelled(word.as_bytes()) {
         Some(node) => Ok(node.certificate(alloc)?),

@@ -11,11 +11,11 @@ pub(crate) struct Node {
     pub(crate) subject: u8,
     pub(crate) issuer: u8,
     pub(crate) key: u8,
-    /// Whose signature it is: `0` is nobody's.
+    /// The signer; `0` is nobody.
     pub(crate) signer: u8,
-    /// The path length, a digit; `-` is none.
+    /// The path length, a digit; `-` if it is absent.
     pub(crate) length: u8,
-    /// `.` if nothing is amiss, or a letter for what is.
+    /// `.` if nothing is wrong, or a letter for what is.
     pub(crate) state: u8,
 }
 

@@ -25,7 +25,7 @@ pub(crate) fn single(arguments: &mut Arguments<'_>, answer: &mut Answer) {
     }
 }
 
-/// The policy of this name as one of a request's. Refuses the line if there is none.
+/// The policy of this name as one of a request's. The line is a `bad line` if there is none.
 fn policy(
     name: &str,
     text: &str,
@@ -80,7 +80,7 @@ where
     P::new(alloc, text)?.verify(alloc, leaf)
 }
 
-/// Adds what a policy says alone, and what it says in a request, if that is something else.
+/// Adds what a policy says by itself, and what it says in a request, if that differs.
 fn said<P: VerificationPolicy>(
     alloc: Global,
     answer: &mut Answer,
@@ -146,7 +146,7 @@ pub(crate) fn several(is_all: bool, arguments: &mut Arguments<'_>, answer: &mut 
     }
 }
 
-/// The policies of a list, of which `-` is the empty one.
+/// The policies of a list, where `-` is the empty one.
 fn policies(list: &str, arguments: &mut Arguments<'_>, answer: &mut Answer) -> LeafPolicies {
     let mut policies = LeafPolicies::new(arguments.alloc());
     if list != "-" {

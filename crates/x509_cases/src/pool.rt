@@ -39,7 +39,7 @@ pub(crate) fn spki(arguments: &mut Arguments<'_>, answer: &mut Answer) {
 }
 
 /// `verify_der_cert TIME LEAF ANCHOR,.. INTERMEDIATE,.. ROW ..`: the leaf's issuer. `verify_cert_with_time` has to say
-/// the same of a leaf that is a certificate; if it does not, its answer follows.
+/// the same for a leaf that is a certificate; if it does not, its result follows.
 pub(crate) fn issuer(arguments: &mut Arguments<'_>, answer: &mut Answer) {
     let time = arguments.integer();
     let leaf = arguments.hex();
@@ -74,7 +74,7 @@ fn issuer_in(
     drop(checker);
 }
 
-/// Adds an issuer, or why there is none.
+/// Adds an issuer, or why there is no issuer.
 pub(crate) fn place(answer: &mut Answer, found: Result<Issuer, PoolError>) {
     match found {
         Ok(Issuer::Anchor(place)) => {

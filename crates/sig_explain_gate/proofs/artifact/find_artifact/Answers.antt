@@ -1,4 +1,4 @@
--- The verdict on an artifact and its object, by what is found of its bundles.
+-- The verdict on an artifact and its object, by the results for its bundles.
 use Rattle.sig_explain_gate.proofs.FoundArtifacts.{artifact-found}
 use Rattle.sig_gate_command.specs.Request.{parts_of}
 use Rattle.sig_manifest.specs.Artifact.{artifact_view}

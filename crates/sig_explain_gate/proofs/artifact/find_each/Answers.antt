@@ -1,4 +1,4 @@
--- What is found of one bundle more, and of all.
+-- The result for one more bundle, and for all.
 use Rattle.std.proofs.Common.{◌∙◌, ℤ, Some, ap, subst, sym}
 use Rattle.std.proofs.Math.Facts.{to_z-of_z}
 use Rattle.sig_explain_gate.proofs.FoundArtifacts.{all-found, walked-more}

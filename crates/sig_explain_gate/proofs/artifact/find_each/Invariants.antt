@@ -5,7 +5,7 @@ use Rattle.sig_json.specs.Tree.{document_tree}
 use Rattle.sig_manifest.specs.Artifact.{artifact_view}
 use Rattle.sig_explain_gate.proofs.artifact.find_each.Given as goal
 
--- what is found so far
+-- the results so far
 abbrev pub invariant-bundles : goal.invariant-bundles
 invariant-bundles l =
     IsWalked (parts_of l.request) (artifact_view l.artifact) (take l.bundle-index l.bundles) l.verdicts

@@ -1,4 +1,4 @@
--- What is found of one artifact more, and of all.
+-- The result for one more artifact, and for all.
 use Rattle.std.proofs.Common.{List, sym, subst}
 use Rattle.std.specs.List.{AllByRecursion}
 use Rattle.sig_explain_gate.proofs.FoundArtifacts.{all-artifacts, listed-more}

@@ -7,7 +7,7 @@ use Rattle.sig_json.specs.Tree.{document_tree}
 use Rattle.sig_manifest.specs.Manifest.{manifest_view}
 use Rattle.sig_explain_gate.proofs.artifacts.find_each.Given as goal
 
--- what is found so far
+-- the results so far
 abbrev pub invariant-artifacts : goal.invariant-artifacts
 invariant-artifacts l =
     IsListed (parts_of l.request) (take l.artifact-index l.artifacts) l.verdicts (document_tree l.list)

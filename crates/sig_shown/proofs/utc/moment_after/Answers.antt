@@ -1,4 +1,4 @@
--- The date is so many days after the first.
+-- The date is this number of days after the first.
 use Rattle.std.proofs.Common.{◌/◌}
 use Rattle.sig_shown.proofs.UtcTexts.{counted}
 use Rattle.sig_shown.proofs.utc.moment_after.Goals as goal
