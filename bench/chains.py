@@ -16,7 +16,7 @@ MOST_SUBJECTS, MOST_DIGESTS = 1024, 32  # of a statement
 
 
 def payload_of(size):
-    """A payload of nearly so many bytes: its predicate is one text."""
+    """A payload of nearly this many bytes: its predicate is one text."""
     return fixture.statement().replace(b'"predicate":{}', b'"predicate":{"a":"' + b"p" * (size - 500) + b'"}')
 
 
@@ -32,7 +32,7 @@ def predicate(count):
 
 
 def leaf_of_extensions(count):
-    """The leaf's extensions after so many others, whose object identifiers come in no order."""
+    """The leaf's extensions after this many others, whose object identifiers come in no order."""
     order = random.Random(count).sample(range(count), count)
     others = b"".join(extension(unknown(place), b"v") for place in order)
     return {"before": others, **fixture.leaf_extensions()}
@@ -118,7 +118,7 @@ def digests(count):
 
 
 def statement(subjects, each):
-    """A statement of so many subjects of so many digests, of which the last has the artifact's."""
+    """A statement of this many subjects of this many digests, of which the last has the artifact's."""
     listed = [fixture.subject(str(place), **digests(each)) for place in range(subjects)]
     listed[-1]["digest"]["sha256"] = fixture.DIGEST
     members = {"_type": "https://in-toto.io/Statement/v1", "subject": listed, "predicateType": "", "predicate": {}}
@@ -219,7 +219,7 @@ def envelope_signatures(count):
 
 
 def ignored(place, make_items):
-    """Requests with a member that is ignored, of so many items, in an object inside: a tree is made of it."""
+    """Requests with a member that is ignored, of this many items, in an object inside: a tree is made of it."""
     def make(count):
         made = fixture.Request()
         root, bundle, rows = made.trusted_root(), made.bundle(), made.accepted()
@@ -244,7 +244,7 @@ PLACES = (("trusted root", 3), ("log entry", 4), ("row", 3))
 
 
 def empty_records(member):
-    """Requests whose trusted root has so many empty records in a list before its own."""
+    """Requests whose trusted root has this many empty records in a list before its own."""
     def make(count):
         made = fixture.Request()
         root = made.trusted_root()
@@ -279,12 +279,12 @@ def replaced(place, items):
 
 
 def object_before(count):
-    """An object of so many members in no order, and after it the float."""
+    """An object of this many members in no order, and after it the float."""
     return shapes.members("")(count) + b',"y":1.5,"y":1'
 
 
 def object_around(count):
-    """An object of so many members in no order, and in it the float."""
+    """An object of this many members in no order, and in it the float."""
     return shapes.members("")(count)[:-1] + b',"y":1.5,"y":1}'
 
 

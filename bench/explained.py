@@ -55,14 +55,14 @@ def written_policy(rules):
 
 
 def last_log(count):
-    """A trusted root of so many logs without members, and one that is not a record."""
+    """A trusted root of this many logs without members, and one that is not a record."""
     made = fixture.Request()
     root = made.trusted_root()
     return written(made, {**root, "ctlogs": [*root["ctlogs"], *[{}] * count, 1]})
 
 
 def last_log_entry(count):
-    """A bundle of so many log entries without members, and one that is not a record."""
+    """A bundle of this many log entries without members, and one that is not a record."""
     made = fixture.Request()
     bundle = made.bundle()
     bundle["verificationMaterial"]["tlogEntries"] += [{}] * count + [1]
@@ -82,7 +82,7 @@ def name(*parts):
 
 
 def issuer_of_parts(count):
-    """The name of the issuer has so many parts, more than are shown as a text."""
+    """The name of the issuer has this many parts, more than are shown as a text."""
     part = der(SET, der(SEQUENCE, COMMON_NAME, der(UTF8_STRING, b"a")))
     return unsigned(fixture.Request(leaf=leaf(issuer=name(part * count))), 0)
 
@@ -124,7 +124,7 @@ def long_note(count):
 # Many refusals beside many accepted signatures.
 
 def unsigned_updates(count):
-    """As many updates as there may be of one log, none of which the log signed, beside so many accepted signatures."""
+    """As many updates as there may be of one log, none of which the log signed, beside this many accepted signatures."""
     rows = [shapes.row(signature=signature) for signature in numbered(b"s" * 66, count)]
     lines = "\n".join(signature_line(b"t%d" % place) for place in range(16))
     update = {"checkpoint": shapes.NOTE + "\n" + lines, "oldSize": 0}

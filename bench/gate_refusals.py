@@ -21,7 +21,7 @@ ENDED = {"end": "2023-01-02T00:00:00Z"}
 # The logs of the trusted root, each with the SHA-256 of its key.
 
 def logs(key_size, id_size, **valid_for):
-    """Logs whose keys and ids have so many bytes each."""
+    """Logs whose keys and ids have this many bytes each."""
     return [log_of(b"k" * key_size, bytes([place]) * id_size, **valid_for) for place in range(LOGS)]
 
 
@@ -72,7 +72,7 @@ class Noted(fixture.Request):
 
 
 def short_rows(count, size):
-    """Rows whose signatures have so many bytes and begin alike."""
+    """Rows whose signatures have this many bytes and begin alike."""
     row = {"operation": "point", "key": "", "message": ""}
     return [{**row, "signature": shapes.coded(each)} for each in numbered(b"sig-"[: size - 4], count)]
 
@@ -101,7 +101,7 @@ def beside_equal_rows(place, made=fixture.Request):
 # The rules of the policy, and what each certificate says to them.
 
 def of_long_texts(count):
-    """As many rules as are shown ask for a text of so many characters, each of which is escaped, and each certificate has another one."""
+    """As many rules as are shown ask for a text of this many characters, each of which is escaped, and each certificate has another one."""
     return manifests.of_bundles(with_ref(b"\1" * count, policy={"all": [{"ref": "\1" * (count - 1) + "\2"}] * RULES}))
 
 

@@ -21,7 +21,7 @@ VERIFIED = "verified 2 5"
 
 
 def requests(count, size):
-    """So many requests of `verify` with bundles of other payloads, each of nearly so many bytes, and one trusted root."""
+    """This many requests of `verify` with bundles of other payloads, each of nearly this many bytes, and one trusted root."""
     return [fixture.Request(payload=payload_of(size + place)) for place in range(count)]
 
 
@@ -62,7 +62,7 @@ def bundle_of_a_long_payload(count):
 
 
 def origins(count):
-    """A rule of as many origins as it may have, each of so many letters, of which only the last is the log's."""
+    """A rule of as many origins as it may have, each of this many letters, of which only the last is the log's."""
     made = fixture.Request()
     others = [{"origin": "o" * (count + place)} for place in range(62)]
     rule = {"any": [*others, {"origin": ORIGIN}]}
@@ -99,7 +99,7 @@ LISTS = (("trust anchors of one name over 16 intermediates each", anchors_over_i
 
 
 def count_of(make, most):
-    """How many elements a manifest of nearly so many bytes has."""
+    """How many elements a manifest of nearly this many bytes has."""
     few, more = len(make(500)[0]), len(make(1000)[0])
     return 500 + max(0, most - few) * 500 // (more - few) * 99 // 100
 

@@ -18,7 +18,7 @@ def compact(value):
 
 
 def payload(optional=b"null", reference=b'"image"', beside=b""):
-    """A payload of these parts, each as it stands."""
+    """A payload of these parts, each as it is."""
     manifest = compact({"docker-manifest-digest": MANIFEST}).encode()
     critical = b'{"identity":{"docker-reference":' + reference + b'},"image":' + manifest + b',"type":"cosign container image signature"}'
     return b'{"critical":' + critical + b',"optional":' + optional + beside + b"}"
@@ -61,7 +61,7 @@ def of_promises():
 
 
 def bundle(predicate=b"{}", subjects=(), inside=b"", after=b"", signature=b"sig-dsse", certificate=b"der"):
-    """The bundle of an image, with a predicate and further subjects as they stand, and with members that are ignored."""
+    """The bundle of an image, with a predicate and further subjects as they are, and with members that are ignored."""
     first = {"name": "image", "digest": {"sha256": fixture.DIGEST}}
     kinds = {"_type": "https://in-toto.io/Statement/v1", "predicateType": "https://sigstore.dev/cosign/sign/v1"}
     statement = compact({**kinds, "subject": [first, *subjects]}).encode()

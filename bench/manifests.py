@@ -33,7 +33,7 @@ def of_bundles(made, root=None, rows=None, **changes):
 
 
 def report(said, count=MOST_ARTIFACTS):
-    """What is written of so many artifacts of whose one bundle this is said."""
+    """What is written about this many artifacts, for whose one bundle this is said."""
     is_verified = said.startswith("verified")
     decided = "admit" if is_verified else "deny none"
     each = "".join(f"artifact artifact-{place} {decided}\nbundle 0 {said}\n" for place in range(count))

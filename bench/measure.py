@@ -163,7 +163,7 @@ def processor_seconds(words, path, status):
 
 
 # The shell makes a process that waits for the end of the shell's input, and then becomes the command over the file.
-# The shell ends at once, and this program, as their nearest reaper, is handed the process, and at its end what it used.
+# The shell ends at once, and this program, as their nearest reaper, is given the process, and at its end what it used.
 LATER = 'exec 3<&0; (read -r _ <&3; exec "$@" <"$0" >/dev/null 3<&-) & echo $!'
 PR_SET_CHILD_SUBREAPER = 36
 

@@ -43,19 +43,19 @@ def long_origin(count):
 
 
 def heads_of_signatures(count):
-    """As many heads as there may be, with so many signatures together."""
+    """As many heads as there may be, with this many signatures together."""
     each = list(numbered(b"s" * 66, count))
     heads = [{"checkpoint": signed([*each[place::HEADS], b"sig"])} for place in range(HEADS)]
     return shapes.audit(heads)
 
 
 def heads_of_hashes(count):
-    """As many heads of one tree, each with so many hashes, which the first alone may have."""
+    """As many heads of one tree, each with this many hashes, which the first alone may have."""
     return shapes.audit([{**shapes.HEAD, "hashes": ["a5" * 32] * count}] * HEADS)
 
 
 def watched(count):
-    """As many watched entries as are shown, each of so many bytes, and in the tree."""
+    """As many watched entries as are shown, each of this many bytes, and in the tree."""
     entry = b"e" * count
     root = hashlib.sha256(b"\0" + entry).digest()
     note = f"log.example\n1\n{coded(root)}\n"
@@ -76,13 +76,13 @@ def witness(updates, origin=ORIGIN, **members):
 
 
 def updates_of_signatures(count):
-    """As many updates as there may be, with so many signatures together."""
+    """As many updates as there may be, with this many signatures together."""
     each = list(numbered(b"s" * 66, count))
     return witness([{"checkpoint": signed([*each[place::UPDATES], b"sig"]), "oldSize": 0} for place in range(UPDATES)])
 
 
 def updates_of_other_origins(count):
-    """As many updates of an origin of so many characters, which nobody watches."""
+    """As many updates of an origin of this many characters, which nobody watches."""
     note = "o" * count + "\n1\n" + EXAMPLE["checkpoint"].split("\n")[2] + "\n"
     return witness([{"checkpoint": signed([b"sig"], note), "oldSize": 0}] * UPDATES)
 

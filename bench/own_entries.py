@@ -69,7 +69,7 @@ def of_growth(entries, more=()):
 
 
 def of_blocks(most):
-    """A request of `log` of nearly so many bytes whose entries are 8,192 ones again and again, of which every second has three bytes, and how many
+    """A request of `log` of nearly this many bytes whose entries are 8,192 ones again and again, of which every second has three bytes, and how many
     there are. It takes as long as if all of three bytes were different, and is made sooner."""
     block = [b"" if place % 2 else place.to_bytes(3, "big") for place in range(2**13)]
     text = ",".join(f'"{coded(entry)}"' for entry in block)
@@ -105,7 +105,7 @@ def growth(made, old, low, high, whole=True):
 
 
 def of_heads(count, entries, more=()):
-    """A request of `audit` of a log at so many sizes, the last with these entries, with them and more."""
+    """A request of `audit` of a log at this many sizes, the last with these entries, with them and more."""
     made = list(levels(entries))
     sizes = [(place + 1) * len(entries) // count for place in range(count)]
     heads, rows = [], []
@@ -118,7 +118,7 @@ def of_heads(count, entries, more=()):
 
 
 def big(size, more=1):
-    """Four entries that make a request of nearly so many bytes, where it has them and so many more of their size."""
+    """Four entries that make a request of nearly this many bytes, where it has them and this many more of their size."""
     return [bytes([number]) * (3 * size // (16 + 4 * more) - 400) for number in range(4)]
 
 
@@ -127,7 +127,7 @@ def small(count):
 
 
 def filling(most, period, entry):
-    """An even number of entries that make a request of nearly so many bytes: of each `period` one is `entry` of its
+    """An even number of entries that make a request of nearly this many bytes: of each `period` one is `entry` of its
     number, which is four characters in base64, and the others have no byte."""
     count = (most - 4096) * period // (3 * period + 4) // (2 * period) * (2 * period)
     return [b"" if place % period else entry(place) for place in range(count)]

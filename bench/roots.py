@@ -24,7 +24,7 @@ def keys(count):
 
 
 def one_name(count):
-    """A leaf, and so many trust anchors and intermediates of its issuer's name, each with its own key and its length in
+    """A leaf, and this many trust anchors and intermediates of its issuer's name, each with its own key and its length in
     two bytes before it; none signed another."""
     listed = [certificate(leaf()), *(certificate(fixture.anchor(key=key)) for key in keys(2 * count))]
     return b"".join(len(each).to_bytes(2, "big") + each for each in listed)
@@ -100,7 +100,7 @@ def log_of(key, identifier, **valid_for):
 
 
 def log_keys(count, size=1000):
-    """Keys of logs whose ids share so many bytes with the entry's."""
+    """Keys of logs whose ids share this many bytes with the entry's."""
     made = fixture.Request(log_id=b"\x44" * size)
     root = made.trusted_root()
     others = [log_of(fixture.key(9), identifier) for identifier in numbered(b"\x44" * (size - 4), count)]

@@ -10,7 +10,7 @@ DEEPEST = 127  # how deep a document may nest
 
 
 def filled(make, most):
-    """A text of nearly so many bytes, and of no more: the count by the sizes of two small ones, then less, until it
+    """A text of nearly this many bytes, and not more: the count by the sizes of two small ones, then less, until it
     fits."""
     few, more = len(make(50)), len(make(100))
     count = 50 + max(0, most - few) * 50 // (more - few)
@@ -145,7 +145,7 @@ def signatures(count):
 
 
 def contents(line):
-    """Notes of so many lines after the hash; their signature is over another note."""
+    """Notes of this many lines after the hash; their signature is over another note."""
     return lambda count: request(checkpoint=NOTE + line * count + "\n" + signature_line(b"sig"))
 
 
@@ -155,7 +155,7 @@ def ignored(items):
 
 
 def ignored_members(prefix):
-    """Requests with so many members that are ignored, whose names share a prefix."""
+    """Requests with this many members that are ignored, whose names share a prefix."""
     return lambda count: request()[:-1] + b"," + members(prefix)(count)[1:]
 
 
@@ -163,12 +163,12 @@ def ignored_members(prefix):
 
 
 def repeated(item):
-    """The list of so many equal items."""
+    """The list of this many equal items."""
     return lambda count: ("[" + ",".join([item] * count) + "]").encode()
 
 
 def members(prefix):
-    """The object of so many members whose names share a prefix, in no order."""
+    """The object of this many members whose names share a prefix, in no order."""
     def make(count):
         names = (prefix + str(int.from_bytes(place, "big")) for place in numbered(b"", count))
         return ("{" + ",".join(f'"{name}":1' for name in names) + "}").encode()
@@ -191,7 +191,7 @@ LETTERS = [chr(code) for code in range(0x20, 0x7F) if chr(code) not in '"\\']
 
 
 def letters(place, count=4):
-    """The name of so many letters at a place in the order of all such names."""
+    """The name of this many letters at a place in the order of all such names."""
     name = ""
     for _ in range(count):
         place, last = divmod(place, len(LETTERS))
@@ -244,7 +244,7 @@ UNORDERED = (
 
 
 def one_text(depth=0, unit=b"a"):
-    """One text of so many units, as the only member of objects so deep."""
+    """One text of this many units, as the only member of objects so deep."""
     return lambda count: b'{"a":' * depth + b'"' + unit * count + b'"' + b"}" * depth
 
 
@@ -253,7 +253,7 @@ def nested(begin, inner, end, depth):
 
 
 def worst(above):
-    """Items that take most memory for a byte, in a list that stands in so many others: names, and the item of each."""
+    """Items that take most memory for a byte, in a list that is inside this many others: names, and the item of each."""
     deepest = DEEPEST - above - 1
     return (
         (f"objects nested to {deepest}", nested('{"a":', "{}", "}", deepest)),
@@ -269,7 +269,7 @@ def worst(above):
 
 
 def bundle_of_entries(item):
-    """Bundles of so many equal log entries."""
+    """Bundles of this many equal log entries."""
     return lambda count: b'{"verificationMaterial":{"tlogEntries":' + repeated(item)(count) + b"}}"
 
 
@@ -309,7 +309,7 @@ def statement_of(member, items):
 
 
 def many_subjects(count=1024):
-    """A statement of so many subjects of 32 digests each, but the first of one; of the 32 two can be compared."""
+    """A statement of this many subjects of 32 digests each, except the first, which has one; of the 32 two can be compared."""
     others = "".join(f',"other{place}":"' + "a5" * 32 + '"' for place in range(30))
     digests = '{"sha256":"' + "a5" * 32 + '","sha512":"' + "a5" * 64 + '"' + others + "}"
     return statement(subjects=(',{"digest":' + digests + "}") * (count - 1))
@@ -341,7 +341,7 @@ def shuffled(count):
 
 
 def certificate(count, order, prefix=b""):
-    """A certificate of so many extensions, whose object identifiers share a prefix and come in an order."""
+    """A certificate of this many extensions, whose object identifiers share a prefix and come in an order."""
     algorithm = element(0x30, bytes.fromhex("06082a8648ce3d040302"))
     curve = element(0x30, bytes.fromhex("06072a8648ce3d020106082a8648ce3d030107"))
     key = element(0x30, curve + element(0x03, b"\0\4" + b"k" * 64))

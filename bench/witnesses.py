@@ -18,7 +18,7 @@ def request(**members):
 
 
 def names(count):
-    """The names of so many origins, in no order."""
+    """The names of this many origins, in no order."""
     return [f"log {name.hex()}" for name in numbered(b"", count)]
 
 
@@ -31,7 +31,7 @@ def note(name):
 
 
 def updates(count):
-    """An update of each of so many origins, each of which is added and takes it."""
+    """An update of each of this many origins, each of which is added and takes it."""
     made = names(count)
     origins = [{"origin": name, "scheme": SCHEME, "key": KEY} for name in made]
     each = [{"checkpoint": note(name) + "\n" + signature_line(b"sig"), "oldSize": 0} for name in made]
@@ -66,7 +66,7 @@ def signatures(count):
 
 
 def of_a_long_key(count):
-    """As many updates as there may be of one note under a key of so many bytes, of which another signature is accepted."""
+    """As many updates as there may be of one note under a key of this many bytes, of which another signature is accepted."""
     key = coded(b"k" * count)
     origin = {"origin": "log.example", "scheme": SCHEME, "key": key}
     update = {"checkpoint": shapes.NOTE + "\n" + signature_line(b"sih"), "oldSize": 0}
@@ -90,7 +90,7 @@ def rows(bench):
 
 
 def count_of(make, most):
-    """How many elements a request of nearly so many bytes has."""
+    """How many elements a request of nearly this many bytes has."""
     few, more = len(make(50)[0]), len(make(100)[0])
     return 50 + max(0, most - few) * 50 // (more - few) * 99 // 100
 

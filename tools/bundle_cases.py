@@ -92,7 +92,7 @@ def fixture_bundle():
 
 
 def fetched(request, digest):
-    """Without an inclusion proof the entry is handed out only where none has to be fetched."""
+    """Without an inclusion proof the entry is returned only where none has to be fetched."""
     bundle = request.bundle()
     bundle["mediaType"] = PROFILES["0.1"]
     del bundle["verificationMaterial"]["tlogEntries"][0]["inclusionProof"]
@@ -200,7 +200,7 @@ def written_rows(rows):
 
 
 def promises():
-    """RFC 8785 sorts these names as they stand here; their letters are ASCII."""
+    """RFC 8785 sorts these names as they are here; their letters are ASCII."""
     group("the text of the promise to include a log entry, up to the largest integers that canonical JSON has")
     largest = 2 ** 53 - 1
     for log_id, body in [(fixture.LOG_ID, b'{"kind":"dsse"}'), (b"\xdd=0j", b""), (b"", b"\x00\xff")]:

@@ -85,7 +85,7 @@ def head(size, root):
 
 
 def request(old, entries, handed=None, /, **changes):
-    """A request of a log that had so many of its entries, with the list that is handed over."""
+    """A request of a log that had this many of its entries, with the list that is given."""
     path = [digest.hex() for digest in trees.subproof(old, entries, True)] if old else []
     made = {"oldSize": old, "oldRoot": trees.tree_hash(entries[:old]).hex(), "hashes": path, **head(len(entries), trees.tree_hash(entries))}
     given = {} if handed is None else {"entries": [base64.b64encode(entry).decode() for entry in handed]}
@@ -200,7 +200,7 @@ def changed(entries, place):
 
 
 def of_sizes(old, new):
-    """Requests of a log of this size that had so many entries: with the log's list, with an entry of the front and one after it changed, and
+    """Requests of a log of this size that had this many entries: with the log's list, with an entry of the front and one after it changed, and
     with one entry more and one fewer; with the last entry first; and with the old tree's entries alone."""
     entries = [f"entry {number}".encode() for number in range(new)]
     yield request(old, entries, entries)

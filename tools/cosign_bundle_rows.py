@@ -19,7 +19,7 @@ LAYER = "sha256:" + "c" * 64
 
 
 class Made:
-    """What a call is handed, by its parts: the statement, then the bundle of it as a tree, then what is told of the image and whom to trust. Each change is
+    """What a call is given, by its parts: the statement, then the bundle of it as a tree, then what is said about the image and whom to trust. Each change is
     made where it says, and what is computed from it changes too."""
 
     def __init__(self, said=(), held=(), told=(), **parts):

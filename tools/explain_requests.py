@@ -71,7 +71,7 @@ def no_form(value):
 
 
 def nested(levels):
-    """A rule in which rules nest to at most so many levels."""
+    """A rule in which rules nest to at most this many levels."""
     def fault_of(value):
         given = [name for name in manifests.RULES if there(value, name)]
         if levels == 0:

@@ -75,7 +75,7 @@ def key(byte):
 
 
 def wide_key(count=270):
-    """A SubjectPublicKeyInfo of RSA, of 294 bytes if nothing is said, RFC 3279 section 2.3.1; modulus and exponent are so many bytes of 1."""
+    """A SubjectPublicKeyInfo of RSA, of 294 bytes if nothing is said, RFC 3279 section 2.3.1; modulus and exponent are this many bytes of 1."""
     algorithm = der(OBJECT_IDENTIFIER, oid("1.2.840.113549.1.1.1")), der(0x05)
     return der(SEQUENCE, der(SEQUENCE, *algorithm), der(BIT_STRING, b"\x00", b"\x01" * count))
 
@@ -258,7 +258,7 @@ def subject(title="a", **digests):
 
 
 def statement(first=DIGEST, subjects=4):
-    """The statement of so many subjects, four or more, the first with this SHA-256 digest."""
+    """The statement of this many subjects, four or more, the first with this SHA-256 digest."""
     listed = [subject(sha256=first), subject("b"), subject("c", sha512=WIDE_DIGEST)]
     listed += [subject(sha256=DIGEST)] * (subjects - 3)
     return compact({"_type": "https://in-toto.io/Statement/v1", "subject": listed,

@@ -1,11 +1,11 @@
 #!/usr/bin/env python3
-"""Draws which crate stands on which, as the picture at the head of docs/ARCHITECTURE.md, from crates.txt: its headings are the floors.
+"""Draws which crate stands on which, as the picture at the head of docs/ARCHITECTURE.md, from crates.txt, whose headings are the floors.
 
     tools/floors.py          writes the picture into the document, in place of the one that is there
     tools/floors.py check    says whether the one that is there is that of crates.txt
 
-Crates for tests are left out, and so is a line to a crate that another one of the same crate leads to. Other programs have
-from here what crates.txt says, and of which files a crate is built."""
+Crates for tests are left out, and so is a line to a crate to which another line of the same crate leads. Other programs
+use this file to read crates.txt, and to find the files from which a crate is built."""
 import pathlib
 import sys
 
@@ -46,7 +46,7 @@ def below(on, crate):
 
 
 def sources(crates):
-    """What crates are built of: files, and folders, which are newer where a file of them is gone."""
+    """The files from which crates are built, and their folders, which become newer if a file is removed."""
     yield TOP / "crates.txt"
     for folder in (TOP / "crates" / name / part for name in crates for part in ("src", "specs")):
         if folder.is_dir():

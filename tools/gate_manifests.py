@@ -151,14 +151,14 @@ def spelled(tree):
 
 
 def nested(name, count, inner):
-    """A rule of so many levels over the inner one."""
+    """A rule of this many levels over the inner one."""
     for _ in range(count):
         inner = {name: inner if name == "not" else [inner]}
     return inner
 
 
 def some_rule(chance, left):
-    """A rule of at most so many nodes."""
+    """A rule of at most this many nodes."""
     form = chance.choice(list(RULES)) if left > 1 else chance.choice(("least", "origin", "size"))
     if form == "least":
         return {form: chance.choice((1, 2, 3, 16, 1, 2, 17, 0) if chance.random() < 0.1 else (1, 2, 3))}

@@ -1,5 +1,5 @@
 #!/usr/bin/env python3
-"""Manifests that `gate` is handed and the replies to them, by a reader of its own.
+"""Manifests that `gate` is given and the replies to them, by a reader of its own.
 
     tools/gate_requests.py                  writes examples/gate.requests, manifests, one a line, and below each the reply and the status; and the
                                             examples gate*.json with their replies

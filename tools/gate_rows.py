@@ -172,7 +172,7 @@ def artifact_by_chance(chance, place, most):
 
 
 def by_chance(manifests, artifacts, most):
-    """Manifests of so many artifacts each, and of at most so many bundles of each artifact."""
+    """Manifests of this many artifacts each, and of at most this many bundles of each artifact."""
     TABLE.group("artifacts by chance")
     chance = random.Random(40 + artifacts)
     for _ in range(manifests):

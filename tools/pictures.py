@@ -4,7 +4,7 @@
     tools/pictures.py          writes the tree into the document, in place of the one that is there
     tools/pictures.py check    says what differs: the tree, or which links a picture lacks or has beside those of its command
 
-The links of a command are those that docs/LINKS.md names in the command's section, in the first cells of its table and in what stands above it;
+The links of a command are those that docs/LINKS.md names in the command's section, in the first cells of its table and in the text above it;
 all pictures together have the names that the program writes. The tree is that of `demo`, by the second implementation in tools/demo_requests.py."""
 import pathlib
 import re

@@ -262,14 +262,14 @@ def is_same(program, command, text, wanted, second):
 
 
 def with_signatures(text, count):
-    """The request whose checkpoint has its signature so many times."""
+    """The request whose checkpoint has its signature this many times."""
     request = json.loads(text)
     note, signature = request["checkpoint"].split("\n\n")
     return json.dumps({**request, "checkpoint": "\n\n".join([note] + [signature.rstrip("\n")] * count)})
 
 
 def with_many_heads(text, count):
-    """The request of an audit whose last head follows itself so many times, each time with two hundred signatures."""
+    """The request of an audit whose last head follows itself this many times, each time with two hundred signatures."""
     request = json.loads(text)
     note, signature = request["heads"][-1]["checkpoint"].split("\n\n")
     again = {"checkpoint": "\n\n".join([note] + [signature.rstrip("\n")] * 200)}
@@ -277,7 +277,7 @@ def with_many_heads(text, count):
 
 
 def with_different_signatures(text, count):
-    """The request of a witness whose first checkpoint has so many signatures, each of them twice."""
+    """The request of a witness whose first checkpoint has this many signatures, each of them twice."""
     request = json.loads(text)
     first = request["updates"][0]
     note, _ = first["checkpoint"].split("\n\n")
@@ -340,7 +340,7 @@ LONGEST = [([("a", "root", None)] * 16, ["root"] * 3, 16 + 16 * 3, 16),
 
 
 def has_lengths(program, text, certificates, points):
-    """Whether the list of a request is that of this reader, with so many rows of certificates and of the SCT."""
+    """Whether the list of a request is that of this reader, with this many rows of certificates and of the SCT."""
     wanted = verify_reply(text)
     kinds = [row["operation"] for row in json.loads(wanted[0])]
     return (kinds.count("certificate"), kinds.count("point")) == (certificates, points) and run(program, text, "questions", "verify") == wanted

@@ -157,7 +157,7 @@ def case(call, *texts):
 
 
 def counts(parts):
-    """A text in parts, each so many times."""
+    """A text in parts, each this many times."""
     text = "".join(part * times for part, times in parts)
     try:
         note, signatures = read_checkpoint(text)

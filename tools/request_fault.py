@@ -29,7 +29,7 @@ def integer(low, end):
 
 
 def sized(least, most, element):
-    """A list of so many elements: its length comes before what is in it."""
+    """A list of this many elements: its length comes before what is in it."""
     def fault(value):
         if isinstance(value, list) and not least <= len(value) <= most:
             return "BeyondRange", ""

@@ -16,7 +16,7 @@ MOST = 2 ** 24
 UNKNOWN_CURVE_OF_LOG = UNKNOWN_CURVE[:-64] + b"\x04" * 64
 
 
-# A trust root that is handed in, and artifacts.
+# A trust root that is given, and artifacts.
 
 def keys_words(keys):
     """Keys by their ids, as arguments of a call."""
@@ -29,7 +29,7 @@ def handed_keys(made):
 
 
 def artifacts():
-    """Calls over an artifact, by its digest or from a source, under a trust root that is handed in."""
+    """Calls over an artifact, by its digest or from a source, under a trust root that is given."""
     log_keys, ct_keys = handed_keys(fixture.Request())
 
     def of_artifact(title, expected, *words, signed=None):
@@ -54,7 +54,7 @@ def artifacts():
 
 
 def rooted():
-    """Calls of the fixture's bundle and log entry under a trust root that is handed in."""
+    """Calls of the fixture's bundle and log entry under a trust root that is given."""
     made = fixture.Request()
     bundle_text = text_word(compact(made.bundle(), canonical=True))
     rows = " ".join(map(request_cases.words_of, made.accepted()))

@@ -187,7 +187,7 @@ def is_issuable(leaf):
 
 
 def may_stand(certificate, time, others):
-    """Whether an intermediate may be in a path, with so many others between it and the leaf (sections 4.2.1.9 and 4.2.1.12)."""
+    """Whether an intermediate may be in a path, with this many others between it and the leaf (sections 4.2.1.9 and 4.2.1.12)."""
     if not is_fit(certificate) or authority_refusal(certificate) is not None:
         return False
     listed, length = certificate.value(EXTENDED_KEY_USAGE, purposes), certificate.value(BASIC_CONSTRAINTS, basic_constraints)[1]

@@ -266,7 +266,7 @@ def is_signed(case, child, parent):
 
 
 def leads(case, place, others, told):
-    """Whether the later certificate at this place leads to a trust anchor, with so many others between it and the leaf. What was found out is `told`."""
+    """Whether the later certificate at this place leads to a trust anchor, with this many others between it and the leaf. What was found out is `told`."""
     if (place, others) not in told:
         each = case.later[place]
         told[place, others] = others < LONGEST_PATH and certificates.may_stand(each, case.leaf.not_before, others) and (

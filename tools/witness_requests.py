@@ -3,7 +3,7 @@
 
     tools/witness_requests.py                  writes examples/witness.requests, requests, one a line, and below each the reply and the status; and
                                                the examples witness*.json with their replies
-    tools/witness_requests.py check PROGRAM    runs the program on sequences of up to 60 updates of four logs, whose state is handed from run to run,
+    tools/witness_requests.py check PROGRAM    runs the program on sequences of up to 60 updates of four logs, whose state is passed from run to run,
                                                and on the longest lists; and compares its replies
 
 The replies are this program's own: members and checkpoints are read as tools/log_requests.py does, a state is read and written, and an update judged,
@@ -331,7 +331,7 @@ def rows_of(updates, everyone):
 
 
 def runs():
-    """Each sequence in one run, and in several, each of which is handed the state that the one before it wrote."""
+    """Each sequence in one run, and in several, each of which is given the state that the one before it wrote."""
     for everyone, updates in sequences():
         rows = list(rows_of(updates, everyone))
         yield {"origins": everyone, "updates": updates, "accepted": rows}

@@ -75,7 +75,7 @@ def signed(child, parent):
 
 
 def stands(one, others):
-    """Whether it may be in a list with so many others before it."""
+    """Whether it may be in a list with this many others before it."""
     return one.state in USABLE and (one.length == "-" or int(one.length) >= others)
 
 

@@ -89,7 +89,7 @@ def chain_case(cause, changes, words, expected):
 
 
 def word_extension(word):
-    """The extension `KIND:NUMBER` whose value has so many bytes 00; `false` is one that says that it is not critical."""
+    """The extension `KIND:NUMBER` whose value has this many bytes 00; `false` is one that says that it is not critical."""
     name, size = word.split(":")
     if name == "false":
         return der(0x30, der(6, fixture.FULCIO["ref"]), der(1, b"\x00"), der(4, bytes(int(size))))

@@ -1,12 +1,12 @@
-/* Hands requests to the library, and compares replies and statuses with those that the program gave: `test` says how.
+/* Gives requests to the library, and compares replies and statuses with those that the program gave: `test` says how.
 
    calls FILE rooms MOST       each case at room of every size from 0 to that of its reply, if that has at most MOST bytes,
                                and else at the sizes about both ends
-   calls FILE threads COUNT    all cases in each of so many threads at once, each with 128 KB of stack
+   calls FILE threads COUNT    all cases in each of this many threads at once, each with 128 KB of stack
    calls FILE refused          each case with each allocation refused in turn, alone and with all that follow it; built with
                                -Wl,--wrap=malloc,--wrap=realloc
 
-   Where HEAP is set, requests and replies are blocks of their own size of the heap, for ASan and valgrind; else they end
+   Where HEAP is set, requests and replies are blocks of their own size of the heap, for ASan and valgrind; otherwise they end
    at the end of a page before one that cannot be used, and requests cannot be written.
 
    FILE is a list of cases: the command, the status, the lengths of request and reply, each of 8 bytes as this machine has

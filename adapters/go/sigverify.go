@@ -1,7 +1,7 @@
 // Package sigverify gives the replies of sigverify's commands, by the library that adapters/c/build.py makes.
 //
-// It is proved of the library that a reply is the program's, as adapters/c/sigverify.h says; that this package hands it
-// the request is not. Calls of several goroutines do not meet.
+// It is proved of the library that a reply is the program's, as adapters/c/sigverify.h says. It is not proved that this
+// package gives it the request. Several goroutines may make calls at once.
 package sigverify
 
 /*
@@ -18,7 +18,7 @@ import (
 	"fmt"
 )
 
-// A Command is what a request is asked for.
+// A Command is what to reply to a request.
 type Command uint32
 
 const (
@@ -33,7 +33,7 @@ const (
 // Questions is the command that lists the signatures on which the reply of c can rest.
 func (c Command) Questions() Command { return c | C.SIGVERIFY_QUESTIONS }
 
-// Explain is the command whose reply is that of c, and after it a line, a JSON object that says why.
+// Explain is the command whose reply is that of c, and after it one line, a JSON object that says why.
 func (c Command) Explain() Command { return c | C.SIGVERIFY_EXPLAIN }
 
 // A Status says what a reply is.
@@ -83,8 +83,8 @@ type Row struct {
 	Signature []byte `json:"signature"`
 }
 
-// Checked returns what a command says to a request, of whose signatures those are accepted that are genuine. What the
-// request accepts itself does not count, since of equal members the last one counts.
+// Checked returns what a command says to a request whose genuine signatures are accepted. An `accepted` in the request
+// itself does not count, since of equal members the last one counts.
 func Checked(command Command, request []byte, genuine func(Row) bool) (Status, []byte, error) {
 	status, listed, err := Reply(command.Questions(), request)
 	if err != nil || status != Holds {

@@ -88,7 +88,7 @@ def words_of(given):
 
 
 def check_files(given, is_protocol):
-    """No file's name is taken for another word: a shell's pattern hands over names that a stranger chose, and such a file
+    """No file's name is taken for another word: a shell's pattern gives names that a stranger chose, and such a file
     would not be verified. After -- all are files, also one that is named --."""
     end = given.index("--") if "--" in given else len(given)
     taken = given[:is_protocol] + [word for word in given[:end] if word.startswith("-") and word != "-"]
@@ -100,7 +100,7 @@ def check_files(given, is_protocol):
 
 
 def check_pattern(words):
-    """A pattern stands in the place of the identity, beside another rule."""
+    """A pattern takes the place of the identity, beside another rule."""
     if RULES["identity"] in words:
         misused(f"{pattern.WORD} is a word in the place of {RULES['identity']}")
     if not any(word in words for word in RULES.values()):
@@ -132,7 +132,7 @@ def text_of(path, opened=lambda path: open(path, "rb")):
 
 
 def sha256_of(path, opened):
-    """Of all that a stream gives."""
+    """The digest of all that a stream gives."""
     digest = hashlib.sha256()
     try:
         with opened(path) as artifact:
@@ -145,7 +145,7 @@ def sha256_of(path, opened):
 
 def digest_of(artifact, is_file):
     """The digest, as a request has it, and whether a bundle can be beside it. Where a file has the name of a digest or
-    of standard input, nothing is guessed: a shell's pattern hands over the names that a stranger chose. A file has to be a
+    of standard input, nothing is guessed: a shell's pattern gives the names that a stranger chose. A file has to be a
     regular one: what came from a pipe was read here, and cannot be installed after it."""
     if not is_file and (artifact == "-" or artifact.startswith(("sha256:", "sha512:"))):
         if os.path.lexists(artifact):
@@ -159,7 +159,7 @@ def digest_of(artifact, is_file):
 
 
 def policy_of(words):
-    """All rules whose words are given, but the pattern. That of the identity names the issuer too."""
+    """All rules whose words are given, except the pattern. The rule of the identity names the issuer too."""
     texts = {rule: utf8(word, words[word]) for rule, word in RULES.items() if word in words}
     signer = {rule: texts.pop(rule) for rule in ("identity", "issuer") if rule in texts}
     return {"all": [each for each in (signer, *({rule: text} for rule, text in texts.items())) if each]}
@@ -187,8 +187,8 @@ CRATES = os.path.join(os.path.dirname(SIGVERIFY), "crates")
 
 
 def program_of(words):
-    """The program for many runs. In a checkout it is behind a launcher, which looks once whether it is up to date, and
-    builds it if not; where the adapter is installed, it is in the launcher's place."""
+    """The program for many runs. In a checkout a launcher looks once whether it is up to date, and builds it
+    if not; where the adapter is installed, the program is in the launcher's place."""
     named = "--sigverify" in words or os.environ.get("SIGVERIFY_BUILD") == "quick" or not os.path.isdir(CRATES)
     if named or library():
         return words.get("--sigverify", SIGVERIFY)
@@ -205,7 +205,7 @@ def policy_refused(found, names, wanted):
 
 
 def answer_of(words, program, request, wanted):
-    """The answer to a request, and what is to be said of a pattern. Where it is verified, and a pattern is wanted, the names
+    """The answer to a request, and what is to be said about a pattern. Where it is verified, and a pattern is wanted, the names
     have to match it too."""
     found = answer(program, "verify", request, VERIFIED, explains(words) or wanted is not None)
     if wanted is None or found.status != 0:
@@ -218,7 +218,7 @@ def answer_of(words, program, request, wanted):
 
 
 def line_of(words, program, request, wanted, artifact, is_file):
-    """The line of one of several artifacts, and its status; of an end without a reply its reason, on standard error."""
+    """The line of one of several artifacts, and its status; if it ends without a reply, the reason on standard error."""
     name = os.fsencode(artifact).decode("utf-8", "backslashreplace")
     try:
         found, said = answer_of(words, program, request(artifact, is_file), wanted)
@@ -239,7 +239,7 @@ def one(words, request, wanted, artifact, is_file):
 
 
 def main(given):
-    """The status of the reply, once that is written; of several, that of the first that is not trusted."""
+    """The status of the reply, once that is written; for several artifacts, that of the first that is not trusted."""
     if given in (["--help"], ["-h"]):
         write(1, HELP.encode())
         return 0

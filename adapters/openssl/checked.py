@@ -13,7 +13,7 @@ from genuine import is_genuine
 from words import misused, read_words, write
 
 MOST_BYTES = 1 << 24  # of a request
-# How many signatures are verified for a request: of one note or one bundle, and of requests that have many.
+# How many signatures are verified for a request: for one note or one bundle, and for requests that have many.
 MOST_ROWS = {**dict.fromkeys(["log", "verify", "consistency"], 1024), **dict.fromkeys(["audit", "witness", "gate"], 16384)}
 SIGVERIFY = os.path.join(os.path.dirname(os.path.realpath(__file__)), "..", "..", "sigverify")
 HELP = """\
@@ -80,7 +80,7 @@ def library():
 
 
 def ended(program, words, request):
-    """How a program ended, and what it wrote. In the place of this repository's own the library is called, if it is there."""
+    """How a program ended, and what it wrote. In place of this repository's own program the library is called, if it is there."""
     try:
         if program == SIGVERIFY and library():
             return library().reply(words, request)
@@ -129,7 +129,7 @@ def explained(program, command, request, replies):
 
 
 def refused(program, command, request, said, replies):
-    """The line of JSON that explains a reply of `questions`, whatever is accepted. What `questions` alone refuses has no room
+    """The line of JSON that explains a reply of `questions`, whatever is accepted. What only `questions` refuses has no room
     for the list beside it, and is explained as a request that is too long."""
     for text in request, request.ljust(MOST_BYTES + 1):
         *again, explanation = explained(program, command, text, replies)

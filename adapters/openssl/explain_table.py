@@ -1,7 +1,7 @@
 """The words for each cause that `sigverify explain` gives, and for what the links compare, as explain_words.py fills them.
 
 A cause is the list of names in the member `cause`, the outermost first. Where links share one, each has its sentence.
-What stands in braces is a member of the JSON, or one of explain_words.MADE. A new cause has its sentence here, and a case
+The text in braces is a member of the JSON, or one of explain_words.MADE. A new cause has its sentence here, and a case
 in explain_cases.jsonl: a line of JSON with the command, the explanation, and the lines that are to be said.
 """
 
@@ -182,7 +182,7 @@ ENTRY = {
 
 WORDS = {**REQUEST, **DOCUMENT, **ROOT, **BUNDLE, **CERTIFICATE, **POLICY, **SIGNATURE, **ENTRY}
 
-# What follows the cause, by the link. Of alternatives the first counts whose members are all there.
+# What follows the cause, by the link. The first alternative counts whose members are all there.
 ASKED = ["{accepted}", "the scheme is {scheme}", ("of the key, SHA-256 is {keySha256}", "the key has {keyLength} bytes"),
          "of the message, SHA-256 is {messageSha256}"]
 TREES = ["the proof says index and tree: {proof}", "the checkpoint says: {note}"]

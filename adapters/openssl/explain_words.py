@@ -1,8 +1,8 @@
 """What the JSON of `sigverify explain` says to a person: at most ten lines of plain English.
 
 No verdict rests on these words, and no other file of the adapters words that JSON. WORDS has the sentence for each cause;
-DETAILS and VERIFIED what follows it, and what is said where every link holds. In braces stand the members of the JSON,
-as docs/LINKS.md has them. A text that somebody else wrote, such as a name of a certificate, stands in a line as it is
+DETAILS and VERIFIED what follows it, and what is said where every link holds. The members of the JSON are in braces,
+as docs/LINKS.md has them. A text that somebody else wrote, such as a name of a certificate, is in a line as it is
 if it has neither blanks nor quotes, and else between quotes, so that it cannot pass for words of the sentence.
 """
 import json
@@ -77,7 +77,7 @@ def object_text(value):
 
 
 def listed(values, count=None):
-    """The first of a list that has so many elements."""
+    """The first of a list that has this many elements."""
     texts = [object_text(each) if isinstance(each, dict) else quoted(str(each)) for each in values[:MOST_LISTED]]
     left = int(count or len(values)) - len(texts)
     return (", ".join(texts) or "none") + (f" and {left} more" if left > 0 else "")
@@ -94,7 +94,7 @@ def fault(members):
 
 
 def rules_refused(members):
-    """Of each rule that does not hold, what the certificate says and what was asked for."""
+    """For each rule that does not hold, what the certificate says and what was asked for."""
     rules = members.get("policy", members).get("rules", members.get("refusals", [members]))
     return [rule_text(rule) for rule in rules if "cause" in rule and ("extension" in rule or "rule" in rule)]
 
@@ -107,18 +107,18 @@ def rule_text(rule):
 
 
 def first_of(texts, count):
-    """The first texts of so many."""
+    """The first texts of this many."""
     left = count - len(texts)
     return ("; ".join(texts) or "none") + (f" and {left} more" if left else "")
 
 
 def with_now(said, members):
-    """What is said of ranges of the trusted root, and the time at which they were looked at."""
+    """What is said about ranges of the trusted root, and the time at which they were looked at."""
     return f"{said}; now is {object_text(members['now'])}" if "now" in members else said
 
 
 def logs(members):
-    """What the trusted root has of the log that was asked for, and else which logs it has. A Certificate Transparency log is
+    """What the trusted root has about the log that was asked for, and otherwise which logs it has. A Certificate Transparency log is
     known by the SHA-256 of its key (RFC 6962 section 3.2), and the log of an entry by the id that the trusted root gives."""
     kind, name = ("ctlogs", "keySha256") if "ctlogs" in members else ("tlogs", "logId")
     held = members.get(kind)
@@ -278,7 +278,7 @@ def audited(members):
 
 
 def witnessed(members):
-    """Of each update what became of it, the refused ones first."""
+    """What became of each update, the refused ones first."""
     if not members.get("updates"):
         yield "there are no updates"
     updates = [(f"update {place}", update) for place, update in enumerate(members.get("updates", []))]
@@ -291,7 +291,7 @@ def witnessed(members):
 
 
 def gated(members):
-    """Of each bundle what became of it, those of artifacts that are not admitted first."""
+    """What became of each bundle, those of artifacts that are not admitted first."""
     artifacts = members.get("artifacts", [])
     for is_admitted in False, True:
         for artifact in artifacts:

@@ -2,7 +2,7 @@
 
 This match is the adapter's own, and no proof is about it. The names are those that `explain verify` shows of a bundle that
 verified under the other rules. Those count that the rule `identity` compares: an email, a URI, or Fulcio's other name. A
-name that is cut never matches. The pattern is the operator's own: of one that takes too long there is no reply.
+name that is cut never matches. The pattern is the operator's own: for one that takes too long there is no reply.
 """
 import contextlib
 import re

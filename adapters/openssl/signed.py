@@ -105,7 +105,7 @@ WORKFLOW = {"trigger": "push", "sha": "0" * 40, "name": "release", "repository":
 
 
 def limited(others):
-    """The extensions of an authority below which so many others may be (RFC 5280 section 4.2.1.9)."""
+    """The extensions of an authority below which this many others may be (RFC 5280 section 4.2.1.9)."""
     limits = der(SEQUENCE, der(fixture.BOOLEAN, b"\xff"), der(0x02, bytes([others])))
     return fixture.extensions(fixture.extension(fixture.BASIC_CONSTRAINTS, limits, critical=True),
                               fixture.extension(fixture.KEY_USAGE, der(BIT_STRING, b"\x02\x04"), critical=True))

@@ -10,7 +10,7 @@ import os
 import sys
 
 NO_REPLY = 3
-SHELL = sys._xoptions.get("shell")  # the process of the first line's shell, which hands it to Python; else None
+SHELL = sys._xoptions.get("shell")  # the process of the first line's shell, which gives it to Python; else None
 OF_SHELL = 40  # how much more than the adapter's status that of Python then is
 
 

@@ -172,7 +172,7 @@ def check_requests(results, program):
 
 
 def check_texts(results, program):
-    """The text is handed on as it came: with blanks, doubled members, and what the program refuses. A list of its own,
+    """The text is passed on as it came: with blanks, doubled members, and what the program refuses. A list of its own,
     forged or not, does not count."""
     made = Signed(spoiled="note")
     forged = compact({**log_request(made), "accepted": [made.rows["note"]]})

@@ -1,4 +1,4 @@
-"""--certificate-identity-regexp: which names match, beside which words it stands, and that it ends."""
+"""--certificate-identity-regexp: which names match, beside which words it may be given, and that it ends."""
 import concurrent.futures
 import json
 import multiprocessing
@@ -39,7 +39,7 @@ def matched(text, names):
 
 
 def check_names(results, _):
-    """In a process of its own, since the test's parts run in threads, and a time is set in the main one alone."""
+    """In a process of its own, since the test's parts run in threads, and a time can be set only in the main one."""
     with concurrent.futures.ProcessPoolExecutor(1, multiprocessing.get_context("spawn")) as pool:
         for text, names, wanted in NAMES:
             results.compare(f"{text} of {names}", pool.submit(matched, text, names).result(), wanted)
@@ -74,7 +74,7 @@ def check_replies(results, program):
 
 
 def check_rules(results, program):
-    """Beside it stands the issuer, a word of the workflow, or several; and the request has these rules alone."""
+    """The issuer, a word of the workflow, or several are given with it; and the request has only these rules."""
     rules = {f"--certificate-github-workflow-{rule}": text for rule, text in WORKFLOW.items()}
     with tempfile.TemporaryDirectory() as folder:
         signed.write(folder, Signed())

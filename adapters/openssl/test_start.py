@@ -46,7 +46,7 @@ WORDS = b"a b", b"", b"*", b"$0", b"-x", b"--", bytes(range(1, 256)), bytes(rang
 
 
 def check_line(results, _):
-    """The one line of both, by sh and by bash; in the place of Python stands a program that ends as it says."""
+    """The one line of both, by sh and by bash; in place of Python there is a program that ends as it says."""
     line = first_line(ADAPTER)
     results.compare("the first lines", (first_line(CHECKED), len(line.encode()) <= MOST_OF_LINE), (line, True))
     results.compare("the Python of the first line", line.count(f" {PYTHON} "), 1)
@@ -158,7 +158,7 @@ def check_interrupted(results, program):
 
 
 def check_abandoned(results, _):
-    """Where the shell alone is ended, Python writes no reply."""
+    """Where only the shell is ended, Python writes no reply."""
     with tempfile.TemporaryDirectory() as folder:
         signed.write(folder, Signed())
         said = b"sigverify-bundle: the shell that started this has ended\n"

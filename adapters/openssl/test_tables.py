@@ -1,4 +1,4 @@
-"""What LINKS.md says of whole bundles: which are refused, at which link, and what the chain does not test."""
+"""What LINKS.md says about whole bundles: which are refused, at which link, and what the chain does not test."""
 import json
 import os
 import subprocess
@@ -247,7 +247,7 @@ def check_other_files(results, program):
 # Policies: which extension each rule compares.
 
 def check_rules(results, program):
-    """Each extension has a text of its own: a rule holds of that of the extension that REQUESTS.md names, alone."""
+    """Each extension has a text of its own: a rule holds only for that of the extension that REQUESTS.md names."""
     rules = {row[0].strip("`"): row[1] for row in rows_of(REQUESTS, "The rules of a policy")}
     identifiers = {name.split("`")[0]: cell.split(",")[0] for name, cell in rules.items()}
     texts = {number: f"text {number}" for number in range(1, 7)}

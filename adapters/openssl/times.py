@@ -11,7 +11,7 @@ CYCLE = 146097  # the days of 400 years
 
 
 def seconds_at(year, month, day, hour, minute, second, offset):
-    """Seconds since 1970 of a time that is so many minutes before UTC. A leap second, 60, is the last of a month, and
+    """Seconds since 1970 of a time that is this many minutes before UTC. A leap second, 60, is the last of a month, and
     counts as the one after it, as in POSIX. Python has no year 0, whose days are those of the year 400."""
     days = datetime.date(year or 400, month, day).toordinal()
     if hour > 23 or minute > 59 or second > 60:

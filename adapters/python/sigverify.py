@@ -6,11 +6,11 @@
     status, text = sigverify.verify(trusted_root, bundle, "sha256:..", {"all": [{"identity": "..", "issuer": ".."}]})
     if status == sigverify.HOLDS: ...  # trusted
 
-`reply` says what the program says to a request: with a status of 0, 1 or 2 the text is the reply. It is proved of the
-library, as adapters/c/sigverify.h says; that this file hands it the request is not. Calls of several threads do not meet,
-and other threads run meanwhile.
+`reply` says what the program says to a request: with a status of 0, 1 or 2 the text is the reply. This is proved of the
+library, as adapters/c/sigverify.h says. It is not proved that this file gives it the request. Several threads may make
+calls at once, and other threads run meanwhile.
 
-`checked` and `verify` ask which signatures the reply can rest on, and accept those that are genuine by the word of OpenSSL:
+`checked` and `verify` ask on which signatures the reply can rest, and accept those that OpenSSL says are genuine:
 `is_genuine` of adapters/openssl/genuine.py, which needs the package cryptography.
 """
 import ctypes
@@ -23,7 +23,7 @@ import time
 HOLDS, REFUSED, NO_REQUEST = 0, 1, 2
 NO_COMMAND, NO_MEMORY, NO_ROOM = 64, 71, 75
 
-# As sigverify.h numbers them; the questions of a command have QUESTIONS more, its explained reply EXPLAIN more.
+# The numbers of sigverify.h; the questions of a command have QUESTIONS more, its explained reply has EXPLAIN more.
 COMMANDS = {"log": 1, "verify": 2, "consistency": 3, "audit": 4, "witness": 5, "gate": 6}
 QUESTIONS, EXPLAIN = 256, 512
 
@@ -38,7 +38,7 @@ GENUINE = os.path.join(HERE, "..", "openssl", "genuine.py")
 
 
 class NoReply(Exception):
-    """The library has no reply: it is out of memory, or another than this file is for."""
+    """The library has no reply: it is out of memory, or this file is for another library."""
 
 
 @functools.lru_cache(maxsize=None)
@@ -55,7 +55,7 @@ def library(path=LIBRARY):
 
 
 def sources():
-    """What the library is made of: files, and folders, which are newer where a file of them is gone."""
+    """The files from which the library is made, and their folders, which become newer if a file is removed."""
     yield os.path.join(TOP, "crates.txt")
     for crate in os.scandir(os.path.join(TOP, "crates")):
         for part in "src", "specs":

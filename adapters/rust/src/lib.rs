@@ -1,11 +1,11 @@
 //! The replies of sigverify's commands, by the library that adapters/c/build.py makes.
 //!
-//! It is proved of the library that a reply is the program's, as adapters/c/sigverify.h says; that this crate hands it the
-//! request is not. Calls of several threads do not meet.
+//! It is proved of the library that a reply is the program's, as adapters/c/sigverify.h says. It is not proved that this
+//! crate gives it the request. Several threads may make calls at once.
 
 use std::fmt;
 
-/// What a request is asked for, as sigverify.h numbers it.
+/// What to reply to a request, by the numbers of sigverify.h.
 #[derive(Clone, Copy, Debug, PartialEq, Eq)]
 #[repr(u32)]
 pub enum Command {
@@ -32,9 +32,9 @@ pub enum Command {
 /// What a reply is.
 #[derive(Clone, Copy, Debug, PartialEq, Eq)]
 pub enum Status {
-    /// Every link of the command holds; of questions, the list is there.
+    /// Every link of the command holds; for questions, the list is there.
     Holds,
-    /// The reply names the first link that does not hold; of `Witness`, some update is refused; of `Gate`, some
+    /// The reply names the first link that does not hold; for `Witness`, some update is refused; for `Gate`, some
     /// artifact is not admitted.
     Refused,
     /// The request is not one of the command's, or too long.
