@@ -4,8 +4,8 @@
     tools/audit_cases.py
 
 Trees, audit paths and consistency proofs are those of RFC 6962 section 2.1, by its recursions; a consistency proof is judged by the walk of
-RFC 9162 section 2.1.4.2, an audit path by the recursion of the path. An audit is judged head by head and then watch by watch. That a list has
-what is audited is asserted here of each, since no collision of SHA-256 is known.
+RFC 9162 section 2.1.4.2, an audit path by the recursion of the path. An audit is judged head by head and then watch by watch. For each audit
+it is asserted that the list has what is audited, since no collision of SHA-256 is known.
 """
 import base64
 import collections

@@ -1,14 +1,14 @@
 #!/usr/bin/env python3
 """Requests of `audit` and the replies to them, by a reader of its own.
 
-    tools/audit_requests.py                  writes examples/audit.requests, requests, one a line, and below each the reply and the status; and
+    tools/audit_requests.py                  writes examples/audit.requests, one request on a line, and below each the reply and the status; and
                                              the examples audit*.json with their replies
     tools/audit_requests.py check PROGRAM    runs the program on logs of up to 40 heads and 200 entries, one head forged at each place, one proof
                                              changed, one watch moved, and other lists; and compares its replies
 
 The replies are this program's own: members and checkpoints are read as tools/log_requests.py does, a consistency proof is checked by the walk of
 RFC 9162 in tools/consistency_cases.py, an audit path by the recursion of RFC 6962 in tools/base_cases.py, and a list of entries is hashed from
-its leaves up. That no list has other entries than the last head's under the same root it takes for granted."""
+its leaves up. It takes for granted that no list has other entries than the last head's under the same root."""
 import base64
 import functools
 import json

@@ -1,4 +1,4 @@
-"""Proofs and bodies of log entries, with one part changed or more: the rows `to_proof`, `tlog_entry` and `tlog_message` of bundle_cases.txt."""
+"""Proofs and bodies of log entries, with one or more parts changed: the rows `to_proof`, `tlog_entry` and `tlog_message` of bundle_cases.txt."""
 import base64
 import json
 import re

@@ -3,8 +3,8 @@
 
     tools/bundle_cases.py
 
-Bundles are read and written a second time, by the table of the format alone (bundle_reader.py); the rows of bundle_cases.txt state the
-refusals and, for some, the text that is written; document_fault.py says which member is the first that is wrong. The checked bundles are that of fixture.py with the faults that a row names put into it.
+Bundles are read and written a second time, only by the table of the format (bundle_reader.py); the rows of bundle_cases.txt state the
+refusals and, for some, the text that is written; document_fault.py says which member is the first that is wrong. A checked bundle is that of fixture.py with the faults that a row names.
 """
 import json
 

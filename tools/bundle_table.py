@@ -1,4 +1,4 @@
-"""The table of crates/bundle_cases, and the sections of bundle_cases.txt that it is made of."""
+"""The table of crates/bundle_cases, and the sections of bundle_cases.txt from which it is made."""
 import os
 
 from case_table import Table

@@ -1,5 +1,5 @@
-"""Lines of the programs of cases, for runs in which an allocation is refused: of each call, and of each kind of result that it has in the table, the
-shortest line, and the longest of those that are not long. A kind of which each line is very long is left out."""
+"""Lines of the programs of cases, for runs in which an allocation is refused: for each call, and for each kind of result that it has in the table, the
+shortest line, and the longest of those that are not long. A kind whose lines are all very long is left out."""
 import collections
 import json
 import pathlib

@@ -1,4 +1,4 @@
-"""The table of a program of cases: `stdin`, a call a line, and `stdout`, what each call returns."""
+"""The table of a program of cases: `stdin`, one call on each line, and `stdout`, what each call returns."""
 import pathlib
 
 CRATES = pathlib.Path(__file__).resolve().parent.parent / "crates"

@@ -1,4 +1,4 @@
-"""Completions for bash of the words of the program and of the adapters, made of what their `--help` says."""
+"""Completions for bash of the words of the program and of the adapters, made from what their `--help` says."""
 import re
 import textwrap
 

@@ -1,14 +1,14 @@
 #!/usr/bin/env python3
 """Requests of `consistency` and the replies to them, by a reader of its own.
 
-    tools/consistency_requests.py                  writes examples/consistency.requests, requests, one a line, and below each the reply and
+    tools/consistency_requests.py                  writes examples/consistency.requests, one request on a line, and below each the reply and
                                                    the status; and the examples consistency*.json with their replies
     tools/consistency_requests.py check PROGRAM    runs the program on requests with the log's own entries, of all sizes up to 33 and all
                                                    older sizes, and compares its replies: with the log's list, and with others
 
 The replies are this program's own: members and checkpoints are read as tools/log_requests.py does, a proof is checked by the walk of
-RFC 9162 in tools/consistency_cases.py, and a list of entries is hashed from its leaves up. That no list has another front than the old
-tree under the same two roots it takes for granted."""
+RFC 9162 in tools/consistency_cases.py, and a list of entries is hashed from its leaves up. It takes for granted that no list has
+another front than the old tree under the same two roots."""
 import base64
 import json
 import pathlib

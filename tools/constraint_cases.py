@@ -3,7 +3,7 @@
 
     tools/constraint_cases.py
 
-What a constraint means is said here by its own words: which annotations a payload has, whom a certificate names, which key signed, and
+This file says in words of its own what a constraint means: which annotations a payload has, whom a certificate names, which key signed, and
 when a log took it. Certificates are the fixture's, with parts that are changed; patterns are those of Python's `re`, of a syntax that it has in
 common with `regex`. docs/DECISIONS.md says what is left open.
 """

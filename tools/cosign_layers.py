@@ -1,5 +1,5 @@
-"""Cosign's layers in the plainest way, for tools/cosign_layer_rows.py: who signed by the word of a certificate, the layer of a descriptor and its
-bytes, the layers of a manifest, and what is shown of each.
+"""Cosign's layers in the plainest way, for tools/cosign_layer_rows.py: who signed according to a certificate, the layer of a descriptor and its
+bytes, the layers of a manifest, and what is shown about each.
 
 Certificates are read by the second reader that the other tools have, which is written from the public standards; the rules of a layer are those of `cosign` as docs/PROVED.md and docs/DECISIONS.md say them.
 """

@@ -1,4 +1,4 @@
-"""Rows of the layers of manifests, and of what is shown of payloads and layers, for tools/cosign_cases.py. What each call returns is told by
+"""Rows of the layers of manifests, and of what is shown about payloads and layers, for tools/cosign_cases.py. What each call returns is told by
 tools/cosign_layers.py."""
 import itertools
 

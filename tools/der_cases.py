@@ -4,7 +4,7 @@
     tools/der_cases.py
 
 It has a reader and a writer of DER from X.690, times by Python's calendar, and none of the project's code. The certificates are a leaf of
-Sigstore's public instance and its issuer, the key that of a public log.
+Sigstore's public instance and its issuer, and the key is that of a public log.
 """
 import calendar
 import datetime

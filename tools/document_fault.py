@@ -1,7 +1,7 @@
-"""What is wrong with a text that has to be a bundle, or a trusted root: the first member that breaks the table of its format, by tables alone.
+"""What is wrong with a text that has to be a bundle, or a trusted root: the first member that breaks the table of its format, found only by tables.
 
 A table is a list of rows in the order in which the formats name the members: a name and what its value has to be, or names of which at most one
-may be there. Values are read by the second readers that the other tools have; `fault` says nothing, or the cause and the path inside.
+may be there. Values are read by the second readers that the other tools have; `fault` returns nothing, or the cause and the path inside.
 """
 import re
 

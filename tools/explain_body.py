@@ -1,4 +1,4 @@
-"""What the body of a log entry says against what it has to say: the first part that differs. Written from docs/LINKS.md, "What is shown of a refusal"."""
+"""The first part in which the body of a log entry differs from what it has to be. Written from docs/LINKS.md, "What is shown of a refusal"."""
 import base64
 
 import json_documents as documents

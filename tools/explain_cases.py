@@ -2,12 +2,12 @@
 """What `explain` of each command writes, beside a second implementation.
 
     tools/explain_cases.py                          writes the examples/explain-*.expected
-    tools/explain_cases.py check PROGRAM [COMMAND]  hands requests to `PROGRAM explain COMMAND`, and compares what is written and the status: the rows of
-                                                    `verify` and of tools/explain_rows.py, the requests of examples/COMMAND.requests, and of those of
-                                                    tools/request_fault_rows.py and of crates/gate_cases one of each explanation
+    tools/explain_cases.py check PROGRAM [COMMAND]  gives requests to `PROGRAM explain COMMAND`, and compares what is written and the status: the rows of
+                                                    `verify` and of tools/explain_rows.py, the requests of examples/COMMAND.requests, and one request
+                                                    for each explanation from tools/request_fault_rows.py and crates/gate_cases
     tools/explain_cases.py all PROGRAM [COMMAND]    the same with all of these
 
-The lines before the last are those that the second implementation of the command has as its reply. Each name of an error's variant that an
+The lines before the last are the reply of the second implementation of the command. Each name of an error's variant that an
 explanation can have (crates/sig_explanation/specs/Names.antt) is shown by some request, or is among `UNSHOWN`, with its reason."""
 import concurrent.futures
 import functools
@@ -43,7 +43,7 @@ def explained(command, text):
 # ---- the requests
 
 def at(value, path):
-    """What stands at a path; none where nothing does."""
+    """The value at a path; None where there is no value."""
     for step in path.split("."):
         if isinstance(value, list):
             value = value[int(step)] if int(step) < len(value) else None

@@ -1,4 +1,4 @@
-"""What `explain gate` writes, once more: of each artifact its bundles, each as `explain verify` shows it. Manifests are read and judged as
+"""What `explain gate` writes, once more: for each artifact its bundles, each as `explain verify` shows it. Manifests are read and judged as
 gate_requests.py does."""
 import gate_requests as gates
 from explain_requests import request_refusal

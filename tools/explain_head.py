@@ -1,4 +1,4 @@
-"""What `explain log` and `explain consistency` write, once more, and what is shown of any checkpoint. Written from docs/LINKS.md.
+"""What `explain log` and `explain consistency` write, once more, and what is shown about any checkpoint. Written from docs/LINKS.md.
 
 Requests are read by log_requests.py and consistency_requests.py, checkpoints by rekor_cases.py, and proofs are judged as those do."""
 import consistency_cases as trees

@@ -1,5 +1,5 @@
-"""The text of a distinguished name (RFC 4514), for names whose parts have one attribute each (RFC 5280 section 4.1.2.4), of a type that has a name
-there and of a value that is a text: PrintableString, UTF8String or IA5String. Others have none here."""
+"""The text of a distinguished name (RFC 4514), for names whose parts have one attribute each (RFC 5280 section 4.1.2.4), whose type has a name
+there and whose value is a text: PrintableString, UTF8String or IA5String. Other names have no text here."""
 import x509_reader as x509
 from fixture import oid
 

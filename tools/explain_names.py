@@ -1,13 +1,13 @@
 """The names of errors' variants that explanations show, and those that crates/sig_explanation/specs/Names.antt has.
 
-A name is told with the definition that gives it, as `checkpoint_name HashLength`: two types of errors may have a variant of one name."""
+A name comes with the definition that gives it, as in `checkpoint_name HashLength`: two types of errors may have a variant of one name."""
 import json
 import pathlib
 import re
 
 DEFINITIONS = pathlib.Path(__file__).resolve().parent.parent / "crates/sig_explanation/specs/Names.antt"
 
-# Which definition names what stands after a name in a cause; before the first name there is the error of the library call.
+# Which definition names what comes after a name in a cause; before the first name there is the error of the library call.
 FIRST = ""
 AFTER = {FIRST: "offline_name", "Json": "json_name", "TrustRoot": "trust_part_name", "Bundle": "bundle_name", "NoLeaf": "validation_name",
           "NotLeaf": "not_leaf_name", "NotCA": "not_ca_name", "Extension": "extension_name", "BundleProfile": "profile_name",
@@ -35,7 +35,7 @@ def defined():
 
 
 def of_cause(cause, first):
-    """The names of a cause that stands after this name."""
+    """The names of a cause that comes after this name."""
     return {f"{AFTER[before]} {name}" for before, name in zip([first, *cause], cause) if before in AFTER}
 
 

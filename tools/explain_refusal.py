@@ -1,6 +1,6 @@
-"""What is shown of an error alone: the names of its variants, and what it keeps. Written from docs/LINKS.md, "What is shown of a refusal".
+"""What is shown about only an error: the names of its variants, and what it keeps. Written from docs/LINKS.md, "What is shown of a refusal".
 
-An error is the text that Rust's Debug prints of it, which the second readers of this folder tell."""
+An error is the text that Rust's Debug prints for it, which the second readers of this folder return."""
 import rust_debug
 from explain_shown import shown
 from rust_debug import Variant

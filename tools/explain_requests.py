@@ -1,7 +1,7 @@
-"""What is shown of the link `request`: what is wrong with a text that has to be a request. Written from docs/REQUESTS.md and docs/LINKS.md.
+"""What is shown for the link `request`: what is wrong with a text that has to be a request. Written from docs/REQUESTS.md and docs/LINKS.md.
 
-The tables of `log`, `verify`, `consistency` and `audit` are those of request_fault.py. Those of `witness` and `gate` are made here of the same parts;
-what is wrong besides with a state, with an origin and with a name of a manifest comes after the table."""
+The tables of `log`, `verify`, `consistency` and `audit` are those of request_fault.py. Those of `witness` and `gate` are made here from the same parts;
+what else is wrong with a state, with an origin and with a name of a manifest comes after the table."""
 import gate_manifests as manifests
 import log_requests as log
 import request_fault as requests

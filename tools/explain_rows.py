@@ -1,5 +1,5 @@
-"""Requests of `verify` whose explanations show what those of the table of `verify` do not: long texts and lists, names, times, and what accepted
-signatures have of one that was asked about.
+"""Requests of `verify` whose explanations show what those of the table of `verify` do not: long texts and lists, names, times, and which parts
+accepted signatures have in common with one that was asked about.
 
 A row changes the fixture's request as those of tools/verify_rows.py do, and states by hand some members of the explanation, by their path."""
 import collections

@@ -1,4 +1,4 @@
-"""More rows of explain_rows.py: the certificate, times, logs, digests, policies, and what accepted signatures have of one that was asked about."""
+"""More rows of explain_rows.py: the certificate, times, logs, digests, policies, and which parts accepted signatures have in common with one that was asked about."""
 import hashlib
 
 import fixture

@@ -1,4 +1,4 @@
-"""What is shown of a bundle that is verified. Written from docs/LINKS.md, "What is shown of a bundle that is verified", RFC 5280 and Fulcio's list of
+"""What is shown about a bundle that is verified. Written from docs/LINKS.md, "What is shown of a bundle that is verified", RFC 5280 and Fulcio's list of
 object identifiers. A `case` is what tools/verify_links.py has read of a request whose links hold."""
 import dsse_cases as dsse
 import explain_evidence as evidence

@@ -3,8 +3,8 @@
 
     tools/explain_verify.py < REQUEST    writes the reply of `verify`, and as the last line the explanation
 
-The links are followed by tools/verify_links.py, and what is shown of each is made by docs/LINKS.md: the error's names and what it keeps by
-explain_refusal.py, what the link compares by explain_evidence.py, what was verified by explain_verified.py."""
+tools/verify_links.py follows the links, and what is shown about each is made from docs/LINKS.md: explain_refusal.py makes the error's names and what it
+keeps, explain_evidence.py what the link compares, and explain_verified.py what was verified."""
 import sys
 from types import SimpleNamespace
 

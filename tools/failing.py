@@ -1,6 +1,6 @@
 """Runs a program whose allocations, reads or writes fail. failing_calls.c says which; cc compiles it, and the loader preloads it.
 
-A request is a `Case`: the words and the request that the program gets, and the reply and the status that it has to end with where nothing fails. The
+A request is a `Case`: the words and the request that the program gets, and the reply and the status with which it has to end where nothing fails. The
 cases are requests of the other tools, whose replies are those of their own readers."""
 import collections
 import json

@@ -4,7 +4,7 @@
     tools/fixture.py FOLDER    writes request.json, trusted_root.json, bundle.json and accepted.json into FOLDER
 
 Nothing is signed. A signature is a few bytes such as `sig-leaf`, and `accepted` lists the signatures that count as genuine: under which
-key, over which message. Each function takes the parts that it is made of, so that a case changes one part and all that is computed from
+key, over which message. Each function takes the parts from which it makes its value, so that a case changes one part and all that is computed from
 it is made anew: `certificate(leaf(validity=..))`, `Request(payload=statement(subjects=1025))`.
 
 Standards: X.690 (DER), RFC 5280 (certificates), RFC 5480 and RFC 3279 (keys), RFC 6962 (SCTs, trees), DSSE protocol, in-toto statement v1,

@@ -1,4 +1,4 @@
-"""The texts that `--help` of the program and of the adapters write, in parts, for what is made of them: man pages, completions."""
+"""The texts that `--help` of the program and of the adapters write, in parts, from which man pages and completions are made."""
 import collections
 import pathlib
 import re
@@ -108,7 +108,7 @@ def rows_in(block):
 
 
 def commands_in(block, terms):
-    """Commands, each with what is said of it: paragraphs, and lists of lines."""
+    """Commands, each with what is said about it: paragraphs, and lists of lines."""
     found = []
     for line in block.split("\n"):
         if re.match("  [^ ]", line):

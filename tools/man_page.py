@@ -1,4 +1,4 @@
-"""A page of the manual, in the macros of man(7), made of what a program's `--help` says."""
+"""A page of the manual, in the macros of man(7), made from what a program's `--help` says."""
 import re
 
 SPECIAL = {"\\": "\\e", "-": "\\-", "^": "\\(ha", "~": "\\(ti", "`": "\\(ga", "'": "\\(aq"}
@@ -10,7 +10,7 @@ def escaped(text):
 
 
 def words(text):
-    """Words of a command line: what is typed is bold, and what stands for something is in italics."""
+    """Words of a command line: what is typed is bold, and a placeholder is in italics."""
     def shown(word):
         if re.fullmatch("[A-Z]+", word):
             return f"\\fI{word}\\fR"
@@ -33,7 +33,7 @@ def paragraph(text):
 
 
 def body(parts):
-    """What is said of a command: paragraphs, and lists of lines that are set as they are."""
+    """What is said about a command: paragraphs, and lists of lines that are set as they are."""
     for part in parts:
         if isinstance(part, str):
             yield paragraph(part)

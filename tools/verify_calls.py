@@ -1,6 +1,6 @@
 """The calls of verify_cases beside those of `verify_offline`: tools/verify_cases.py writes them. Each has a title, the call, and what it returns.
 
-What is returned is stated by hand; of questions and trusted roots the readers of tools/questions_cases.py and tools/verify_links.py say the same.
+What is returned is stated by hand; for questions and trusted roots the readers of tools/questions_cases.py and tools/verify_links.py say the same.
 """
 import hashlib
 

@@ -4,12 +4,12 @@
     tools/verify_cases.py                      writes the calls of the library with what they return, crates/verify_cases/stdin and stdout, and
                                                says how many rows each link has
     tools/verify_cases.py REQUESTS EXPECTED    writes the requests and their replies there, and a longer table, with cases that other tables
-                                               have of a single reader
-    tools/verify_cases.py check PROGRAM        hands the request of each row to `PROGRAM verify`, and compares reply and status
+                                               have for a single reader
+    tools/verify_cases.py check PROGRAM        gives the request of each row to `PROGRAM verify`, and compares reply and status
     tools/verify_cases.py examples FOLDER      writes verify.json and verify-refused.json with their .expected files
 
-A row of tools/verify_rows.py says what changes of the fixture's request and, by hand, what comes of it. tools/verify_links.py, a second
-implementation of the links, has to say the same; else nothing is written. A line of the requests is a row's name, a tab, and the request; a line
+A row of tools/verify_rows.py says what changes in the fixture's request and, by hand, what the result is. tools/verify_links.py, a second
+implementation of the links, has to say the same; otherwise nothing is written. A line of the requests is a row's name, a tab, and the request; a line
 of what is expected is the name, a tab, the reply, a tab, and the error of the library call `verify_offline` (`-` where there is none, and where
 the request itself is refused, which no library call reads). Such rows are not calls; each other row is one, under a `#` line of its name. The
 calls of tools/verify_calls.py follow.

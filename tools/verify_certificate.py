@@ -1,4 +1,4 @@
-"""What `verify` asks of certificates, in the plainest way: extensions, profiles, SCTs, keys and policies, for tools/verify_links.py.
+"""What `verify` demands of certificates, in the plainest way: extensions, profiles, SCTs, keys and policies, for tools/verify_links.py.
 
 Written from RFC 5280 (certificates), X.690 (DER), RFC 6962 section 3 (SCTs), RFC 5480, RFC 3279 and RFC 8410 (keys), RFC 7468 (PEM) and Fulcio's
 list of object identifiers. A certificate is cut into its fields by tools/x509_reader.py, which this one continues.

@@ -1,6 +1,6 @@
-"""The rows of the table of `verify`: what changes of the fixture's request, and what comes of it, stated by hand. tools/verify_cases.py writes them.
+"""The rows of the table of `verify`: what changes in the fixture's request, and what the result is, stated by hand. tools/verify_cases.py writes them.
 
-The pair of `content` and `envelope` is missing, since `envelope` is about an envelope and `content` fails where none is.
+The pair of `content` and `envelope` is missing, since `envelope` is about an envelope and `content` fails where there is none.
 """
 import json
 

@@ -1,4 +1,4 @@
-"""The rows of the table of `verify` about intermediates: the certificates after a bundle's leaf, over which a path leads to a trust anchor."""
+"""The rows of the table of `verify` about intermediates: the certificates after a bundle's leaf, through which a path leads to a trust anchor."""
 import fixture
 from fixture import BASIC_CONSTRAINTS, BIT_STRING, KEY_USAGE, SEQUENCE, anchor, base64_of, certificate, der, extension, key, leaf, name
 from verify_cases import accepted, chain, message, root, row, unaccepted, whole_row

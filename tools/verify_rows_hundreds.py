@@ -1,4 +1,4 @@
-"""The rows of the table of `verify` with lists of three hundred elements: a body that gives up on long lists is refused by nothing else."""
+"""The rows of the table of `verify` with lists of three hundred elements: only these rows refuse a body that gives up on long lists."""
 import fixture
 from fixture import (DIGEST, FULCIO, ISSUER, SUBJECT_ALTERNATIVE_NAME, SEQUENCE, URI, WORKFLOW, anchor, base64_of, certificate, compact, der, extension,
                      key, note, oid, statement, subject)

@@ -4,8 +4,8 @@
     tools/witness_cases.py
 
 A witness is a dictionary here, from origins to a key and heads, and its text is read by splitting it at newlines. Trees and consistency
-proofs are those of RFC 6962 section 2.1, by its recursions; a consistency proof is judged by the walk of RFC 9162 section 2.1.4.2. That a list
-has what is kept is asserted here of each, since no collision of SHA-256 is known.
+proofs are those of RFC 6962 section 2.1, by its recursions; a consistency proof is judged by the walk of RFC 9162 section 2.1.4.2. For each
+witness it is asserted that the list has what is kept, since no collision of SHA-256 is known.
 """
 import base64
 import binascii

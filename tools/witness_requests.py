@@ -1,7 +1,7 @@
 #!/usr/bin/env python3
 """Requests of `witness` and the replies to them, by a reader of its own.
 
-    tools/witness_requests.py                  writes examples/witness.requests, requests, one a line, and below each the reply and the status; and
+    tools/witness_requests.py                  writes examples/witness.requests, one request on a line, and below each the reply and the status; and
                                                the examples witness*.json with their replies
     tools/witness_requests.py check PROGRAM    runs the program on sequences of up to 60 updates of four logs, whose state is passed from run to run,
                                                and on the longest lists; and compares its replies

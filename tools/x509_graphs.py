@@ -1,7 +1,7 @@
 """Rows of x509_cases of pools whose certificates are spelled by letters. The second implementation tries every list of intermediates.
 
-A certificate is six letters: its name, its issuer's, its key, the key that signed it (`0` is nobody's), its path length (`-` is none), and
-`.` or what is amiss with it. A trust anchor is its name and its key; a leaf is `l`, its issuer's name and the key that signed it; `?` is not a
+A certificate is six letters: its name, its issuer's, its key, the key that signed it (`0` is nobody's), its path length (`-` if it has none), and
+`.` or what is wrong with it. A trust anchor is its name and its key; a leaf is `l`, its issuer's name and the key that signed it; `?` is not a
 certificate.
 """
 import random

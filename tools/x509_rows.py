@@ -1,4 +1,4 @@
-"""Rows of x509_cases that state a change of the fixture leaf and the answer: those of x509_cases.txt, and each bit and purpose alone."""
+"""Rows of x509_cases that state a change of the fixture leaf and the answer: those of x509_cases.txt, and each bit and purpose by itself."""
 import os
 
 import fixture

@@ -1,5 +1,5 @@
 #!/usr/bin/python3
-"""Makes the shared library adapters/c/out/libsigverify.so, of the static library of crates/sigverify_c and of the Rattle
+"""Makes the shared library adapters/c/out/libsigverify.so, from the static library of crates/sigverify_c and of the Rattle
 kit's archive for the heap.
 
     adapters/c/build.py
@@ -24,7 +24,7 @@ SHARED = HERE / "out/libsigverify.so"
 
 
 def ran(words, folder=HERE):
-    """What a command writes; where it fails, that is the end."""
+    """What a command writes; this program ends if the command fails."""
     done = subprocess.run(words, cwd=folder, stdout=subprocess.PIPE, stderr=subprocess.STDOUT, text=True)
     if done.returncode != 0:
         sys.stderr.write(done.stdout[-4000:])
@@ -33,7 +33,7 @@ def ran(words, folder=HERE):
 
 
 def kit():
-    """The folder of the kit, at whose top its first page is."""
+    """The folder of the kit, which has its first page at the top."""
     return pathlib.Path(ran(["rt", "doc"]).strip()).parent
 
 
@@ -88,7 +88,7 @@ def link(static, heap):
 
 
 def make():
-    """Makes the shared library, unless it is up to date in its parts."""
+    """Makes the parts of the shared library that are not up to date."""
     home = kit()
     link(archive(home), home / "c/liblibc_c.a")
 
