@@ -80,7 +80,6 @@ pub(crate) fn equal(arguments: &mut Arguments<'_>, answer: &mut Answer) {
     answer.value(&(one == other));
 }
 
-/// The bytes of a text.
 fn bytes_of(alloc: Global, answer: &mut Answer, text: &Text) -> Bytes {
     match Bytes::copy_of(alloc, text.as_str().as_bytes()) {
         Ok(bytes) => bytes,

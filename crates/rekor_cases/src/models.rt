@@ -31,7 +31,6 @@ pub(crate) fn hashes(arguments: &mut Arguments<'_>, answer: &mut Answer) {
     answer_to(answer, decode_hashes(arguments.alloc(), &texts));
 }
 
-/// Each hash.
 impl Shown for Hashes {
     fn add_to(&self, answer: &mut Answer) {
         for hash in self.as_slice() {

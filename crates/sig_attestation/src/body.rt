@@ -24,7 +24,6 @@ struct Spelled {
     payload: Text,
 }
 
-/// Reads the text of a hash.
 enum HashTextReader {}
 
 impl ElementReader for HashTextReader {

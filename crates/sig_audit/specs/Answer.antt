@@ -62,7 +62,6 @@ size_or first (Some last) = last.checkpoint.note.size
 abbrev pub latest_size : AuditHead → List AuditHead → ℕ
 latest_size first later = size_or first (slice_get later (length later - 1))
 
--- the result of an audit
 unfoldable pub audit_answer : (List ℕ → List ℕ → Bool) → List AuditHead → List Watch → Result ℕ AuditError
 audit_answer accepts [] watched = Err Empty
 audit_answer accepts (first ∷ later) watched = do

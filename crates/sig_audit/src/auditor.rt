@@ -156,7 +156,6 @@ fn check_growth(
     }
 }
 
-/// Checks each watch.
 #[tactic(auto, using(crate::proofs::FirstErrors::watch_errors))]
 fn check_watches(heads: &[AuditHead], watched: &[Watch]) -> Result<(), AuditError>
     ensures { result ≡ first_error (watch_answer heads.now) None 0 watched.now }

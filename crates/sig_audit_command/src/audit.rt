@@ -31,7 +31,6 @@ pub fn audit_reply(alloc: Global, request: &[u8]) -> Result<Reply, OutOfMemory>
     reply
 }
 
-/// The reply to a request.
 fn reply_to(alloc: Global, request: &AuditRequest) -> Result<Reply, OutOfMemory>
     requires { AreWithin request.now.heads request.now.watched }
     ensures { (text : List ℕ) → IsRequestOf audit_request text request.now → IfOk result (IsAuditReply text) }

@@ -46,7 +46,6 @@ pub fn are_bytes(bytes: &[u8])
 pub fn are_owned_bytes(bytes: &Bytes)
     ensures { AreBytes bytes.now }
 {
-    // The slice is bytes.
     are_bytes(bytes.as_slice());
 }
 

@@ -61,7 +61,6 @@ pub fn some_row_has(rows: &[AcceptedRow], part: RowPart, bytes: &[u8]) -> bool
     rows.iter().any(|row| part_of(row, part) == bytes)
 }
 
-/// A part of a row.
 #[inline(always)]
 fn part_of(row: &AcceptedRow, part: RowPart) -> &[u8]
     ensures { result.now ≡ part_of part row.now }

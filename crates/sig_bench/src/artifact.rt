@@ -65,7 +65,7 @@ fn untrusted(alloc: Global, bundle: &Bundle, count: u64) -> Option<u64> {
     answer
 }
 
-/// A trust root that trusts nothing.
+/// Returns the trust root without keys and certificates.
 fn nothing(alloc: Global) -> ManualTrustRoot {
     ManualTrustRoot {
         fulcio_certs: Entries::new(alloc),

@@ -37,7 +37,7 @@ pub fn promise_text(alloc: Global, entry: &TransparencyLogEntry) -> Result<Text,
     write_promise(alloc, entry)
 }
 
-/// The text of a promise.
+/// Writes the canonical JSON of a promise (RFC 8785).
 fn write_promise(alloc: Global, entry: &TransparencyLogEntry) -> Result<Text, CanonicalError>
     ensures { Answers CanonicalError.OutOfMemory (λ text. text) result
         (canonical_of (promise_tree_of entry.now)) }

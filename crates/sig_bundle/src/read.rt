@@ -21,7 +21,6 @@ const MEMBERS: [&str; 4] = [
     "dsseEnvelope",
 ];
 
-/// Reads bundles.
 enum BundleReader {}
 
 impl ElementReader for BundleReader {

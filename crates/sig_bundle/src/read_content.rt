@@ -74,7 +74,6 @@ impl ElementReader for SparseSignatureReader {
     }
 }
 
-/// Reads envelopes.
 enum EnvelopeReader {}
 
 impl ElementReader for EnvelopeReader {

@@ -87,7 +87,6 @@ impl ElementWriter for SparseSignatureWriter {
     }
 }
 
-/// Writes envelopes.
 enum EnvelopeWriter {}
 
 impl ElementWriter for EnvelopeWriter {

@@ -14,7 +14,6 @@ use sig_base::{Bytes, Entries, OutOfMemory};
 use sig_json::{Document, ElementWriter, Object};
 use std::alloc::Global;
 
-/// Writes certificates.
 enum CertificateWriter {}
 
 impl ElementWriter for CertificateWriter {

@@ -4,6 +4,5 @@ use Rattle.sig_certificate.specs.Certificate.{Extension}
 use Rattle.sig_certificate.specs.Places.{extension_of}
 use Rattle.sig_certificate.specs.declared.extension_walk.Extensions.{Extensions}
 
--- the extensions that are left
 abbrev pub extensions_left : Extensions → List Extension
 extensions_left e = map (extension_of e.bytes.now) e.left.now

@@ -8,7 +8,6 @@ use Rattle.sig_certificate.specs.declared.lookup.Lookup.{Lookup}
 use Rattle.sig_certificate.specs.declared.lookup.Lookup.TheVariants.{Absent, One, Several}
 use Rattle.sig_certificate.specs.Certificate.{Extension}
 
--- a borrowed extension
 abbrev pub borrowed_extension : ExtensionRef → Extension
 borrowed_extension r = record { oid = r.oid.now; critical = r.critical; value = r.value.now; whole = r.whole.now }
 

@@ -40,7 +40,6 @@ pub fn basic_constraints(
 /// - `Malformed`, `Missing`: key usage is malformed or duplicate, or absent;
 /// - `NotCA`: neither cA nor keyCertSign is set; `Invalid`: only one of them is.
 pub fn is_ca(certificate: &Certificate) -> Result<(), CertificateValidationError>
-    // It is an authority.
     ensures authority { (result ≡ Ok tt) ↔ IsAuthority certificate.now }
     // Each error: the rules before its own hold, and its own does not.
     ensures faults { (e : CertificateValidationError) → IsErrOf result e ↔ IsAuthorityFault certificate.now e }
@@ -108,7 +107,6 @@ pub(crate) fn key_usage(
 
 /// Whether the certificate is a root. Fails as `is_ca` does, then with `NotRootCA` if issuer and subject differ.
 pub fn is_root_ca(certificate: &Certificate) -> Result<(), CertificateValidationError>
-    // It is a root.
     ensures root { (result ≡ Ok tt) ↔ IsRoot certificate.now }
     // Each error: the rules before its own hold, and its own does not.
     ensures faults { (e : CertificateValidationError) → IsErrOf result e ↔ IsRootFault certificate.now e }

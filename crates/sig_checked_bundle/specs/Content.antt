@@ -78,7 +78,6 @@ envelope_content envelope = do
 abbrev pub message_content : MessageSignature → ContentWithSignature
 message_content message = record { signature = message.signature; content = CheckedMessage }
 
--- the content with its signature
 abbrev pub content_with_signature : Option Content → Result ContentWithSignature BundleErrorKind
 content_with_signature None = Err SignatureMissing
 content_with_signature (Some (Message message)) = Ok (message_content message)

@@ -54,7 +54,6 @@ struct BodySignature {
     verifier: Bytes,
 }
 
-/// Reads hashes of parts.
 enum HashedPartReader {}
 
 impl ElementReader for HashedPartReader {

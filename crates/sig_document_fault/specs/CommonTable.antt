@@ -11,6 +11,5 @@ certificate_table = record_table (optional_row (codes "rawBytes") bytes_table �
 unfoldable pub chain_table : Table
 chain_table = record_table (optional_row (codes "certificates") (elements certificate_table) ∷ [])
 
--- the id of a log (LogId)
 unfoldable pub log_id_table : Table
 log_id_table = record_table (optional_row (codes "keyId") bytes_table ∷ [])

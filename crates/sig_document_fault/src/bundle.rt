@@ -39,7 +39,6 @@ impl MemberTable for MaterialTable {
     }
 }
 
-/// The table of bundles.
 enum BundleTable {}
 
 impl MemberTable for BundleTable {

@@ -5,7 +5,6 @@ use sig_json::Json;
 use sig_table::{BytesTable, ListOf, MemberTable, TableError, object, optional};
 use std::alloc::Global;
 
-/// The table of certificates.
 pub(crate) enum CertificateTable {}
 
 impl MemberTable for CertificateTable {

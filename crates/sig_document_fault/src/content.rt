@@ -47,7 +47,6 @@ impl MemberTable for DsseSignatureTable {
     }
 }
 
-/// The table of envelopes.
 pub(crate) enum EnvelopeTable {}
 
 impl MemberTable for EnvelopeTable {

@@ -131,7 +131,6 @@ fn member_json(alloc: Global, name: &str, value: &str) -> Result<String, OutOfMe
     Ok(format!(in alloc; "{}:{value}", name.as_str())?)
 }
 
-/// Members in braces.
 fn braced(alloc: Global, members: &Vec<String>) -> Result<String, OutOfMemory>
     ensures { IfOk result (λ text. string_bytes text ≡ in_braces (texts_of members.now.items)) }
 {

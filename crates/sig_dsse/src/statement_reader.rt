@@ -17,7 +17,6 @@ use sig_json::{
 };
 use std::alloc::Global;
 
-/// Reads subjects.
 enum SubjectReader {}
 
 impl ElementReader for SubjectReader {
@@ -37,7 +36,6 @@ impl ElementReader for SubjectReader {
     }
 }
 
-/// Reads statements.
 pub(crate) enum StatementReader {}
 
 impl ElementReader for StatementReader {

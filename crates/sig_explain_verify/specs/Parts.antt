@@ -68,11 +68,9 @@ certificate_key c = result_ok (kind_answer c.spki (key_kind c.spki))
 
 -- ---- the log entry
 
--- the text of the promise
 abbrev pub promise_text_of : TransparencyLogEntry → Option (List ℕ)
 promise_text_of entry = result_ok (canonical_of (promise_tree_of entry))
 
--- the inclusion proof
 abbrev pub proof_of : TransparencyLogEntry → Option InclusionProof
 proof_of entry = entry.inclusion_proof >>= λ fields. result_ok (proof_or_fault fields)
 

@@ -45,11 +45,9 @@ pub record IsShownRoot (text : List ℕ) (now : ℤ) (shown : ShownRoot) : Type 
   pub root : shown.root ≡ root_in text
   pub trust : IsTrustIn (root_in text) now shown.trust
 
--- its certificates of authorities
 abbrev pub authorities_in : ShownRoot → Option (List Cert)
 authorities_in shown = shown.trust >>= λ parts. parts.authorities
 
--- its pool
 abbrev pub pool_in : ShownRoot → Option Pool
 pool_in shown = shown.trust >>= λ parts. parts.pool
 

@@ -55,7 +55,6 @@ fn told(
     }
 }
 
-/// The object of the refusal of a policy.
 fn policy_refusal(alloc: Global, policy: &RequestPolicy) -> Result<Object, OutOfMemory>
     ensures { IfOk result (λ made. members made ≡ members_into no_members (policy_refusal_rows policy.now)) }
 {

@@ -150,7 +150,6 @@ fn extension_part(kind: &ExtensionErrorKind) -> &PartName
     }
 }
 
-/// The name of a digest in a statement.
 fn digest_name(name: &DigestName) -> &'static str
     ensures { result.now ≡ digest_name name.now }
 {

@@ -55,7 +55,6 @@ pub record IsReportOf (parts : Parts) (reply : Reply) : Type 0 where
   pub are : AreJudged (checker_with parts.1) parts.0 verdicts
   pub made : reply ≡ reported parts.0.artifacts verdicts
 
--- a text is a manifest
 pub record HasManifest (text : List ℕ) : Type 0 where
   pub parts : Parts
   pub is : IsGateText text parts

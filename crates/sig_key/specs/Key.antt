@@ -7,7 +7,6 @@ use Rattle.sig_base.specs.declared.error.SigstoreError.TheVariants.{Base64Decode
 use Rattle.sig_key.specs.declared.verification_key.CosignVerificationKey.{CosignVerificationKey}
 use Rattle.sig_key.specs.declared.verification_key.CosignVerificationKey.TheVariants as key
 
--- the scheme of a key
 abbrev pub key_scheme : CosignVerificationKey → VerifyScheme
 key_scheme (key.RSA_PSS_SHA256 _) = scheme.RSA_PSS_SHA256
 key_scheme (key.RSA_PKCS1_SHA256 _) = scheme.RSA_PKCS1_SHA256

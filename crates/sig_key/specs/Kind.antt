@@ -17,7 +17,6 @@ use Rattle.sig_key.specs.declared.kind.KeyKind.TheVariants.{NoKeyInfo, Unsupport
 use Rattle.sig_key.specs.declared.verification_key.CosignVerificationKey.{CosignVerificationKey}
 use Rattle.sig_key.specs.Key.{key_scheme, key_info}
 
--- the scheme of a curve
 abbrev pub curve_scheme : List ℕ → Option VerifyScheme
 curve_scheme oid =
     if bytes_eq oid p256 then Some scheme.ECDSA_P256_SHA256_ASN1

@@ -45,7 +45,6 @@ impl<'a> Signature<'a> {
     {
         match self {
             Signature::Raw(_) => (),
-            // The text is bytes.
             Signature::Base64Encoded(text) => are_bytes(text),
         }
     }

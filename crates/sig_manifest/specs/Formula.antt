@@ -57,6 +57,5 @@ rule_view = fold-Rule Formula level
 abbrev pub rules_of : List Rule → List Formula
 rules_of rules = map rule_view rules
 
--- the rules of a list
 abbrev pub rules_view : Vec Rule Global → List Formula
 rules_view rules = rules_of rules.items

@@ -49,7 +49,6 @@ fn are_few_bundles(artifacts: &[Artifact]) -> bool
     true
 }
 
-/// Reads the members of a manifest.
 #[tactic(auto, unfolding(crate::specs::Manifest::manifest_members))]
 pub(crate) fn read_members(alloc: Global, json: Json<'_, '_>) -> Result<Manifest, MemberError>
     ensures { Answers MemberError.OutOfMemory manifest_view result

@@ -25,7 +25,6 @@ subproof_at (suc level) old_size entries known =
     ++ root (take (2 ^ level) entries) ∷ [])
     else subproof_at level old_size entries known)
 
--- SUBPROOF
 unfoldable pub subproof : ℕ → List (List ℕ) → Bool → List (List ℕ)
 subproof old_size entries known = subproof_at (length entries) old_size entries known
 

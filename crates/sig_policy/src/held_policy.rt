@@ -67,7 +67,6 @@ impl<'a> HeldPolicy<'a> {
     }
 }
 
-/// The rules of a policy.
 fn rules_of(policy: &RequestPolicy) -> &LeafPolicies
     ensures { result.now ≡ rules_of policy.now }
 {

@@ -9,7 +9,6 @@ use Rattle.sig_request.specs.declared.consistency_request.ConsistencyRequest.{Co
 use Rattle.sig_request.specs.ReadFrom.{IsRequestOf}
 use Rattle.sig_program.specs.Verdict.{IsLinkVerdict}
 
--- the links of `consistency`
 abbrev pub consistency_links : List Link
 consistency_links = Request ∷ Checkpoint ∷ NoteKey ∷ NoteMatch ∷ Consistency ∷ []
 

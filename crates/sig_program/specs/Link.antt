@@ -28,7 +28,6 @@ use Rattle.sig_witness_command.specs.Request.{witness_request}
 use Rattle.sig_witness_command.specs.Start.{IsStart, Logs}
 use Rattle.sig_witness_command.specs.declared.request.WitnessRequest.{WitnessRequest}
 
--- the links of `log`
 abbrev pub log_links : List Link
 log_links = Request ∷ Checkpoint ∷ NoteKey ∷ NoteMatch ∷ Inclusion ∷ []
 

@@ -43,7 +43,6 @@ fn reply_to_text(alloc: Global, request: &[u8]) -> Result<Reply, OutOfMemory>
     reply
 }
 
-/// The reply to a request.
 fn reply_to(alloc: Global, request: &ConsistencyRequest) -> Result<Reply, OutOfMemory>
     ensures { (text : List ℕ) → IsRequestOf consistency_request text request.now
         → IfOk result (IsReply Consistency text) }

@@ -71,7 +71,6 @@ pub fn long_reply(alloc: Global) -> Result<Reply, OutOfMemory>
     refused_text(alloc, &RequestFault::TooLong)
 }
 
-/// The explained reply of `audit`.
 #[inline(never)]
 fn explain_audit(alloc: Global, request: &[u8]) -> Result<Reply, OutOfMemory>
     ensures { IfOk result (IsExplained Audit request.now) }
@@ -81,7 +80,6 @@ fn explain_audit(alloc: Global, request: &[u8]) -> Result<Reply, OutOfMemory>
     explained_by(alloc, &plain, &explanation)
 }
 
-/// The explained reply of `witness`.
 #[inline(never)]
 fn explain_witness(alloc: Global, request: &[u8]) -> Result<Reply, OutOfMemory>
     ensures { IfOk result (IsExplained Witness request.now) }
@@ -91,7 +89,6 @@ fn explain_witness(alloc: Global, request: &[u8]) -> Result<Reply, OutOfMemory>
     explained_by(alloc, &plain, &explanation)
 }
 
-/// The explained reply of `gate`.
 #[inline(never)]
 fn explain_gate(alloc: Global, request: &[u8]) -> Result<Reply, OutOfMemory>
     ensures { IfOk result (IsExplained Gate request.now) }

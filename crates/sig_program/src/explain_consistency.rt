@@ -41,7 +41,6 @@ fn explain_fault(alloc: Global, text: &[u8]) -> Result<Reply, OutOfMemory>
     }
 }
 
-/// The explained reply to a request.
 fn explain_request(alloc: Global, request: &ConsistencyRequest) -> Result<Reply, OutOfMemory>
     ensures { (text : List ℕ) → IsRequestOf consistency_request text request.now → IfOk result (IsExplained Consistency text) }
 {

@@ -51,7 +51,6 @@ fn explain_fault(alloc: Global, text: &[u8]) -> Result<Reply, OutOfMemory>
     }
 }
 
-/// The explained reply to a request.
 fn explain_request(alloc: Global, request: &VerifyRequest) -> Result<Reply, OutOfMemory>
     ensures { (text : List ℕ) → IsRequestOf verify_request text request.entry.now
         → IfOk result (IsExplained Verify text) }

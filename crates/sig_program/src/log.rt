@@ -31,7 +31,6 @@ pub fn log_reply(alloc: Global, request: &[u8]) -> Result<Reply, OutOfMemory>
     reply
 }
 
-/// The reply to a request.
 fn reply_to(alloc: Global, request: &LogRequest) -> Result<Reply, OutOfMemory>
     ensures { (text : List ℕ) → IsRequestOf log_request text request.now → IfOk result (IsReply Log text) }
 {

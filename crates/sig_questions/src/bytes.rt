@@ -12,6 +12,5 @@ pub(crate) fn is_read_certificate(bundle: &CheckedBundle)
     let certificate = bundle.certificate();
     // What was read of a certificate is of its DER.
     certificate.is_certificate();
-    // The DER is bytes.
     are_bytes(certificate.der());
 }

@@ -20,13 +20,11 @@ abbrev pub or_unexpected : {A E : Type 0} → UnexpectedKind → Result A E → 
 or_unexpected kind (Ok x) = Ok x
 or_unexpected kind (Err e) = Err (UnexpectedError kind)
 
--- the proof that the entry carries
 abbrev pub carried_proof : LogEntry → Result InclusionProof SigstoreError
 carried_proof entry = do
   api ← ok_or entry.verification.inclusion_proof (UnexpectedError ProofMissing)
   or_unexpected ProofConversion (inclusion_proof_from_rekor api)
 
--- the bytes that are logged
 abbrev pub logged_bytes : Body → Result (List ℕ) SigstoreError
 logged_bytes body = or_unexpected CanonicalBody (canonical_of (body_tree body))
 

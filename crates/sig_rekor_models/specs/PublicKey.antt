@@ -10,7 +10,6 @@ use Rattle.sig_rekor_models.specs.declared.public_key.PublicKey.{PublicKey}
 abbrev pub key_text : PublicKey → List ℕ
 key_text key = key.content
 
--- the text that bytes are
 abbrev pub text_of_bytes : Option (List ℕ) → Result (List ℕ) SigstoreError
 text_of_bytes None = Err Base64DecodeError
 text_of_bytes (Some bytes) = if is_utf8 bytes then Ok bytes else Err Utf8Error

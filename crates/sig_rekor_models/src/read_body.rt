@@ -29,7 +29,6 @@ impl ElementReader for EntryKindReader {
     }
 }
 
-/// Reads bodies.
 enum BodyReader {}
 
 impl ElementReader for BodyReader {

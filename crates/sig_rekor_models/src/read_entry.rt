@@ -159,7 +159,6 @@ const MEMBERS: [&str; 7] = [
     "verification",
 ];
 
-/// Reads log entries.
 pub(crate) enum LogEntryReader {}
 
 impl ElementReader for LogEntryReader {

@@ -65,7 +65,6 @@ pub struct AuditRequest {
 /// name is ignored: no tree is made of it.
 const MEMBERS: [&str; 5] = ["heads", "watched", "scheme", "key", "entries"];
 
-/// Reads heads.
 enum HeadTextReader {}
 
 impl ElementReader for HeadTextReader {
@@ -103,7 +102,6 @@ impl ElementReader for WatchReader {
     }
 }
 
-/// Reads requests of `audit`.
 enum AuditRequestReader {}
 
 impl RequestReader for AuditRequestReader {

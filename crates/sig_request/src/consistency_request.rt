@@ -58,7 +58,6 @@ const MEMBERS: [&str; 9] = [
     "entries",
 ];
 
-/// Reads requests of `consistency`.
 enum ConsistencyRequestReader {}
 
 impl RequestReader for ConsistencyRequestReader {

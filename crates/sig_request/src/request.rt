@@ -62,7 +62,6 @@ const MEMBERS: [&str; 9] = [
     "entries",
 ];
 
-/// Reads requests of `log`.
 enum LogRequestReader {}
 
 impl RequestReader for LogRequestReader {

@@ -53,7 +53,6 @@ const MEMBERS: [&str; 6] = [
     "entries",
 ];
 
-/// Reads requests of `verify`.
 enum VerifyRequestReader {}
 
 impl RequestReader for VerifyRequestReader {

@@ -8,7 +8,6 @@ use Rattle.sig_table.specs.Chosen.{is_between, sized}
 use Rattle.sig_table.specs.Kinds.{below_table, bytes_table, hash_table, text_table, u64_table}
 use Rattle.sig_table.specs.Table.{Table, elements, chosen, Row, optional_row, required_row, member_in, record_table}
 
--- a head
 unfoldable pub head_table : Table
 head_table =
     record_table (

@@ -53,7 +53,6 @@ impl ElementReader for RangeReader {
     }
 }
 
-/// Reads authorities.
 enum AuthorityReader {}
 
 impl ElementReader for AuthorityReader {

@@ -58,7 +58,6 @@ point_of_info (Some k) = point_in k
 unfoldable pub point_of : List ℕ → Result (List ℕ) KeyringError
 point_of spki = point_of_info (whole_key_info spki)
 
--- the point that was borrowed
 abbrev pub borrowed_point : Result (Bor (List ℕ)) KeyringError → Result (List ℕ) KeyringError
 borrowed_point (Ok p) = Ok p.now
 borrowed_point (Err e) = Err e

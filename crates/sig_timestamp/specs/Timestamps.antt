@@ -75,6 +75,5 @@ sct_of_list [] = Err LeafSCTMissing
 sct_of_list (e ∷ []) = sct_of_value e.value
 sct_of_list (e ∷ f ∷ es) = Err LeafSCTMissing
 
--- the SCT of a certificate
 unfoldable pub sct_of : Cert → Result Sct CertificateErrorKind
 sct_of c = sct_of_list (sct_extensions c)

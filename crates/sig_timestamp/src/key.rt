@@ -87,7 +87,6 @@ fn read_key(alloc: Global, spki: &[u8]) -> Result<Key, KeyringError>
     })
 }
 
-/// Returns the point of an SPKI.
 #[tactic(auto, unfolding(crate::specs::Keyring::point_of))]
 fn point_of(spki: &[u8]) -> Result<&[u8], KeyringError>
     ensures { borrowed_point result ≡ point_of spki.now }

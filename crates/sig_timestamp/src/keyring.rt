@@ -71,7 +71,6 @@ impl Keyring {
         }
     }
 
-    /// Returns the key of an id.
     fn key(&self, id: &[u8; 32]) -> Option<&Key>
         ensures { option_map (λ k. k.now.point) result ≡ point_at self.now id.now }
     {

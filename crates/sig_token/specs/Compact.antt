@@ -22,7 +22,6 @@ HasPayload text payload = (header : List ℕ) × (signature : List ℕ) × IsCom
 
 -- ---- the same as a function
 
--- the second of three
 abbrev pub second_of_three : List (List ℕ) → Option (List ℕ)
 second_of_three [] = None
 second_of_three (header ∷ []) = None

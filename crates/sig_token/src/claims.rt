@@ -50,7 +50,6 @@ impl Claims {
 /// The names of the members that are read. No tree is made of a member of another name.
 const MEMBERS: [&str; 4] = ["aud", "exp", "nbf", "email"];
 
-/// Reads claims.
 enum ClaimsReader {}
 
 impl ElementReader for ClaimsReader {

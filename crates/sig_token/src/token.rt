@@ -82,7 +82,6 @@ impl fmt::Display for IdentityToken {
     }
 }
 
-/// The token that a text is.
 #[tactic(auto, unfolding(crate::specs::Token::token_of))]
 fn read_token(alloc: Global, text: &str) -> Result<IdentityToken>
     ensures { Answers Memory (λ token. token) result (token_of text.now) }

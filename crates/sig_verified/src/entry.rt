@@ -58,7 +58,6 @@ pub(crate) fn with_sct_of(
     object.with(alloc, name, value)
 }
 
-/// The SCT of a certificate.
 #[tactic(auto, unfolding(crate::specs::Verified::sct_tree))]
 fn sct_document(alloc: Global, certificate: &Certificate) -> Result<Document, OutOfMemory>
     ensures { IfOk result (λ document. document_tree document ≡ sct_tree certificate.now) }

@@ -42,7 +42,6 @@ pub(crate) struct BriefStatement {
     pub(crate) predicate_type: Text,
 }
 
-/// Reads subjects.
 enum SubjectReader {}
 
 impl ElementReader for SubjectReader {
@@ -59,7 +58,6 @@ impl ElementReader for SubjectReader {
     }
 }
 
-/// Reads statements.
 enum StatementReader {}
 
 impl ElementReader for StatementReader {
@@ -76,7 +74,6 @@ impl ElementReader for StatementReader {
     }
 }
 
-/// Shows subjects.
 enum ShownSubject {}
 
 impl Shown for ShownSubject {

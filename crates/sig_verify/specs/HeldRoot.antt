@@ -66,7 +66,6 @@ from_fault (Err fault) = Err (of_root (fault_error fault))
 abbrev pub trust_answer : HeldRoot → Result Trust OfflineError
 trust_answer held = from_fault held.trust
 
--- what was borrowed
 abbrev pub borrowed_trust : Result (Bor Trust) OfflineError → Result Trust OfflineError
 borrowed_trust (Ok trust) = Ok trust.now
 borrowed_trust (Err error) = Err error

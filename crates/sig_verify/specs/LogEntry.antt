@@ -35,7 +35,6 @@ abbrev pub id_answer : Option (List ℕ) → Result (List ℕ) OfflineError
 id_answer None = Err LogIdMissing
 id_answer (Some id) = Ok id
 
--- what was borrowed
 abbrev pub borrowed_id : Result (Bor (List ℕ)) OfflineError → Result (List ℕ) OfflineError
 borrowed_id (Ok id) = Ok id.now
 borrowed_id (Err error) = Err error

@@ -54,11 +54,9 @@ abbrev pub only_entry_among : Option VerificationMaterial → Option Transparenc
 only_entry_among None = None
 only_entry_among (Some material) = only_entry material.tlog_entries
 
--- the only log entry of a bundle
 abbrev pub only_entry_of : BundleType → Option TransparencyLogEntry
 only_entry_of bundle = only_entry_among bundle.verification_material
 
--- what was borrowed
 abbrev pub borrowed_entry : Option (Bor TransparencyLogEntry) → Option TransparencyLogEntry
 borrowed_entry found = option_map (λ entry. entry.now) found
 

@@ -47,7 +47,6 @@ impl HeldRoot {
     {
         match read_trusted_root(alloc, text) {
             Ok(root) => {
-                // The keys of logs are bytes.
                 are_log_key_bytes(root.tlogs.as_slice());
                 let root = SigstoreTrustRoot::of(root);
                 let held = HeldRoot::new(alloc, &root, now)?;

@@ -43,7 +43,6 @@ first_head = record { size = 0; hash = sha256 []; hashes = [] }
 abbrev pub new_log : CosignVerificationKey → KeptLog
 new_log key = record { key = key; chain = first_head ∷ [] }
 
--- the key of a log
 abbrev pub log_key : KeptLog → CosignVerificationKey
 log_key log = log.key
 

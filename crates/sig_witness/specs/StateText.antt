@@ -46,7 +46,6 @@ lines_of entry =
       hash = base64_text head.hash;
     }
 
--- the text of logs
 abbrev pub state_text : List (List ℕ × KeptLog) → List ℕ
 state_text logs = all_before (map lines_of logs) []
 

@@ -78,7 +78,6 @@ fn read_base64(alloc: Global, line: &str, cause: StateError) -> Result<Bytes, St
     ensures ok { IfOk result (λ bytes. IsBase64Of line.now bytes) }
     ensures err { IfErr result (λ e. OrMemory StateError.OutOfMemory e ((e ≡ cause) × (base64_bytes line.now ≡ None))) }
 {
-    // The line is bytes.
     are_bytes(line.as_bytes());
     match Bytes::of_base64(alloc, line.as_bytes())? {
         Some(bytes) => {

@@ -35,7 +35,6 @@ pub fn witness_reply(alloc: Global, request: &[u8]) -> Result<Reply, OutOfMemory
     reply
 }
 
-/// The reply to a request.
 fn reply_to(alloc: Global, request: &WitnessRequest) -> Result<Reply, OutOfMemory>
     ensures { IfOk result (IsReplyTo request.now) }
 {

@@ -172,7 +172,6 @@ impl ElementReader for OriginKeyReader {
     }
 }
 
-/// Reads updates.
 enum UpdateTextReader {}
 
 impl ElementReader for UpdateTextReader {

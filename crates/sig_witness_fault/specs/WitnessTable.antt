@@ -15,7 +15,6 @@ origin_table =
     ∷ []
     )
 
--- an update
 unfoldable pub update_table : Table
 update_table =
     record_table (

@@ -42,7 +42,6 @@ impl MemberTable for OriginTable {
     }
 }
 
-/// The table of updates.
 enum UpdateTable {}
 
 impl MemberTable for UpdateTable {

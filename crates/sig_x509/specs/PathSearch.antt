@@ -22,7 +22,6 @@ may_issue_code (Err e) = false
 may_issue_code (Ok None) = true
 may_issue_code (Ok (Some is)) = is
 
--- `MayIssue`
 abbrev pub may_issue : ℤ → Cert → Bool
 may_issue t x = is_fit x && (is_none (ca_refusal x) && (is_within x t && may_issue_code (code_signing x)))
 

@@ -110,7 +110,6 @@ fn graph_of(arguments: &mut Arguments<'_>) -> Result<Graph, NoGraph> {
     })
 }
 
-/// The certificate of a word.
 fn read(alloc: Global, word: &str) -> Result<Certificate, NoGraph> {
     let der = der_of(alloc, word)?;
     certificate_of(alloc, &der)
