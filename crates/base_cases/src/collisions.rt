@@ -16,8 +16,8 @@ use std::alloc::{AllocError, Global};
 
 /// `fronts OLD NEW`: the digest of both roots of `front_roots`, for `NEW` numbered entries of which the first `OLD` are
 /// the old tree; then a letter for what `consistency_collision` returns of the proof beside the entries, beside them
-/// with the
-/// first or the last changed, and beside one more and one fewer: `n` for `None`, `x` where the proof is not accepted.
+/// with the first or the last changed, and beside one more and one fewer: `n` for `None`, `x` where the proof is not
+/// accepted.
 pub(crate) fn fronts(arguments: &mut Arguments<'_>, answer: &mut Answer) {
     let old = arguments.natural();
     let new = arguments.natural();

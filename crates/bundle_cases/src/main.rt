@@ -1,8 +1,8 @@
 //! Cases of bundles: read, written, compared and checked; and what is wrong with them, and with trusted roots. `stdin`
 //! lists calls, and `stdout` what they return.
 //!
-//! Their origin: `tools/bundle_cases.py`, a program in another language that reads and writes bundles by the table
-//! of the format alone, over the bundle that `tools/fixture.py` makes; the refusals are stated by hand, row by row.
+//! Their origin: `tools/bundle_cases.py`, a program in another language that reads and writes bundles by the table of
+//! the format alone, over the bundle that `tools/fixture.py` makes; the refusals are stated by hand, row by row.
 #![tactic(auto)]
 
 mod checked;

@@ -1,7 +1,7 @@
 //! Cases of manifests of a gate, and of what it finds: `stdin` lists calls, and `stdout` what they return.
 //!
-//! Their origin: `tools/gate_cases.py`, a program in another language that reads a manifest by its table of
-//! members, and follows the chain of trust link by link.
+//! Their origin: `tools/gate_cases.py`, a program in another language that reads a manifest by its table of members,
+//! and follows the chain of trust link by link.
 #![tactic(auto)]
 
 mod manifest;

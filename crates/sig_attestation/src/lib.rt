@@ -10,10 +10,10 @@
 //!                                  "subject":[{"digest":{"sha256":"ba78.."}}]}
 //! ```
 //!
-//! The layer above uses one fact. The result for a text is the parts of its bundle, if and only if the bundle is
-//! one of `cosign` about the image, the log of its entry vouches for the entry by a promise and a proof, and the
-//! entry's body is about the envelope and its one signature; and else the first broken rule is the error. Whether the
-//! certificate is trusted, and whether its key signed the envelope, is not checked here.
+//! The layer above uses one fact. The result for a text is the parts of its bundle, if and only if the bundle is one of
+//! `cosign` about the image, the log of its entry vouches for the entry by a promise and a proof, and the entry's body
+//! is about the envelope and its one signature; and else the first broken rule is the error. Whether the certificate is
+//! trusted, and whether its key signed the envelope, is not checked here.
 #![tactic(auto)]
 
 mod attestation;

@@ -25,8 +25,7 @@ audit_with_accepted request rows = record {
   entries = request.entries;
 }
 
--- the request's accepted signatures and these agree on those that the heads ask for, also where no list was
--- written
+-- the request's accepted signatures and these agree on those that the heads ask for, also where no list was written
 abbrev pub AgreeOnHeads : AuditRequest → List AcceptedRow → Type 0
 AgreeOnHeads request rows =
     (heads : List AuditHead) → AreHeads request.heads heads → (row : AcceptedRow)

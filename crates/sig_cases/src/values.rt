@@ -63,9 +63,9 @@ impl<'a> Arguments<'a> {
         }
     }
 
-    /// The arguments to their end as the rows of a checker, which accepts only these signatures. A row is
-    /// `message SCHEME KEY MESSAGE SIGNATURE`, `prehash SCHEME KEY DIGEST SIGNATURE`, `point POINT MESSAGE SIGNATURE`
-    /// and `certificate ALGORITHM SPKI TBS SIGNATURE`, where a scheme is the name of one.
+    /// The arguments to their end as the rows of a checker, which accepts only these signatures. A row is `message
+    /// SCHEME KEY MESSAGE SIGNATURE`, `prehash SCHEME KEY DIGEST SIGNATURE`, `point POINT MESSAGE SIGNATURE` and
+    /// `certificate ALGORITHM SPKI TBS SIGNATURE`, where a scheme is the name of one.
     pub fn checker(&mut self) -> TableChecker {
         let mut checker = TableChecker::new(self.alloc());
         for _ in 0..u64::MAX {

@@ -1,6 +1,5 @@
--- Reading a certificate by computation: the plain program that the reader is equal to, in the same steps. That it
--- reads exactly the texts of *Certificate* is in proofs/Certificates. A relation defines the times, as sig_der
--- does.
+-- Reading a certificate by computation: the plain program that the reader is equal to, in the same steps. That it reads
+-- exactly the texts of *Certificate* is in proofs/Certificates. A relation defines the times, as sig_der does.
 use Rattle.std.specs.Prelude.{◌≡◌, ℕ, ◌+◌, ◌-◌, ℤ, List, [], ◌∷◌, length, take, Bool, true, false, Option, Some, None}
 use Rattle.std.specs.Prelude.{nat_lt, ◌==◌, if◌then◌else◌}
 use Rattle.sig_base.specs.OptionSteps.{◌>>=◌}

@@ -47,8 +47,8 @@ pub record IsMessageOf (content : Option Content) (bytes : List ℕ) (kept : Che
   pub same : message.signature ≡ bytes
   pub over : kept ≡ CheckedMessage
 
--- an envelope has only this signature, its payload is a statement whose digests are taken, and all that the
--- signature has to be over is kept
+-- an envelope has only this signature, its payload is a statement whose digests are taken, and all that the signature
+-- has to be over is kept
 pub record IsEnvelopeOf (content : Option Content) (bytes : List ℕ) (kept : CheckedContent) : Type 0 where
   pub envelope : DsseEnvelope
   pub held : content ≡ Some (Envelope envelope)

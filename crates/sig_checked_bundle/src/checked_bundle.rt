@@ -46,8 +46,8 @@ impl Model for CheckedBundle {
 }
 
 impl CheckedBundle {
-    /// Checks what needs only the bundle, and keeps what the checks after it need. Fails with the first of these
-    /// that has its cause:
+    /// Checks what needs only the bundle, and keeps what the checks after it need. Fails with the first of these that
+    /// has its cause:
     ///
     /// 1. `VerificationMaterialMissing`: there is no verification material.
     /// 2. `VerificationMaterialContentUnsupported`: the material has no content, or a hint at a key.
@@ -112,8 +112,8 @@ impl CheckedBundle {
     }
 
     /// Returns the log entry if its body is about what the bundle holds, and nothing has to be fetched to check it:
-    /// with `offline`, or with an inclusion proof. Returns `None` if and only if one of both does not hold.
-    /// Fails only if out of memory.
+    /// with `offline`, or with an inclusion proof. Returns `None` if and only if one of both does not hold. Fails only
+    /// if out of memory.
     ///
     /// The body of an entry about a signature over an artifact is the document of kind `hashedrekord`, version 0.0.1
     /// (Rekor), that has `input_digest`, the artifact's SHA-256, in lower-case hexadecimal, the signature, and the PEM

@@ -31,9 +31,8 @@ impl fmt::Display for Version {
     }
 }
 
-/// Reads a media type: one of those that Display writes, or
-/// `application/vnd.dev.sigstore.bundle+json;version=0.3`, another name of 0.3. Fails if and only if the text is not
-/// one of these four. It takes no memory.
+/// Reads a media type: one of those that Display writes, or `application/vnd.dev.sigstore.bundle+json;version=0.3`,
+/// another name of 0.3. Fails if and only if the text is not one of these four. It takes no memory.
 impl FromStr for Version {
     type Err = ();
 

@@ -50,8 +50,7 @@ impl SignatureLayer {
     /// - `UnexpectedError` of `ImageDigest`: the payload is of another image;
     /// - `SigstoreAnnotationNotFoundError`: there is no annotation `dev.cosignproject.cosign/signature`;
     /// - those of [`Bundle::new_verified`](crate::Bundle::new_verified) for the annotation
-    ///   `dev.sigstore.cosign/bundle`, if
-    ///   keys are given;
+    ///   `dev.sigstore.cosign/bundle`, if keys are given;
     /// - `OutOfMemory`.
     pub fn new<C: SignatureChecker>(
         alloc: Global,

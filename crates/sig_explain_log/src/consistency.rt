@@ -30,10 +30,9 @@ use std::alloc::Global;
 /// - `checkpoint`: `cause`, a list of `ParseCheckpointError` and the rule that the text breaks first;
 /// - `note-key`: as [`with_unsigned`](crate::with_unsigned);
 /// - `note-match`: `cause`, a list of `ConsistencyProofError` and the name of the error, and what the error keeps;
-///   `new`,
-///   the `treeSize` and the `rootHash` of the tree of now; and `note`, its `origin`, `treeSize` and `rootHash`;
-/// - `consistency`: likewise, and `old`, the `treeSize` and the `rootHash` of the older tree, which replace the
-///   sizes that an error keeps as `new` and `old`.
+///   `new`, the `treeSize` and the `rootHash` of the tree of now; and `note`, its `origin`, `treeSize` and `rootHash`;
+/// - `consistency`: likewise, and `old`, the `treeSize` and the `rootHash` of the older tree, which replace the sizes
+///   that an error keeps as `new` and `old`.
 ///
 /// If every link holds, it is what was verified: `new`, `note` and `old`. Fails only if out of memory.
 #[tactic(auto, unfolding(crate::specs::Consistency::consistency_tree))]

@@ -26,8 +26,8 @@ pub struct ShownRoot {
 }
 
 impl ShownRoot {
-    /// Returns what is shown of this text, a trusted root, at a time in whole seconds since 1970. A text that is
-    /// one is read once; the fault of another is found in a second pass. Fails only if out of memory.
+    /// Returns what is shown of this text, a trusted root, at a time in whole seconds since 1970. A text that is one is
+    /// read once; the fault of another is found in a second pass. Fails only if out of memory.
     pub fn read(alloc: Global, text: &[u8], now: i64) -> Result<ShownRoot, OutOfMemory>
         ensures { IfOk result (IsShownRoot text.now now) }
     {

@@ -26,9 +26,8 @@ pub const MOST_ASKED: usize = 67_108_864;
 /// `,"accepted":` would have more than 2^24 bytes together. Which signatures the manifest itself accepts does not
 /// matter. Fails only if out of memory.
 ///
-/// For two manifests that differ only in accepted signatures that are not asked for, `gate` has
-/// the same reply, also where no list is written. And a list that is written fits one request with the manifest that it
-/// is of.
+/// For two manifests that differ only in accepted signatures that are not asked for, `gate` has the same reply, also
+/// where no list is written. And a list that is written fits one request with the manifest that it is of.
 pub fn gate_questions(alloc: Global, request: &[u8]) -> Result<Reply, OutOfMemory>
     ensures reply { IfOk result (IsGateQuestionsReply request.now) }
     ensures suffice { GateQuestionsSuffice }

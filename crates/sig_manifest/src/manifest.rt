@@ -25,8 +25,8 @@ pub struct Manifest {
     pub artifacts: Artifacts,
 }
 
-/// Whether there are as many artifacts and bundles as a manifest may have: from 1 to 256, and at most 256 of
-/// all together.
+/// Whether there are as many artifacts and bundles as a manifest may have: from 1 to 256, and at most 256 of all
+/// together.
 pub fn is_within(artifacts: &[Artifact]) -> bool
     ensures { result ≡ is_within (artifacts_view artifacts.now) }
 {

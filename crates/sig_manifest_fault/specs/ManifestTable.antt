@@ -19,8 +19,7 @@ use Rattle.sig_table.specs.Table.{Table, leaf, elements, optional_row, required_
 abbrev pub name_table : Table
 name_table = leaf (other_kind name_kind)
 
--- an artifact; its rule is first one in which rules nest to at most 64 levels, and then one that has at most 64
--- nodes
+-- an artifact; its rule is first one in which rules nest to at most 64 levels, and then one that has at most 64 nodes
 unfoldable pub artifact_table : Table
 artifact_table =
     record_table (

@@ -10,8 +10,8 @@
 //! artifacts[7].root                beyond its range: no trusted root has this name
 //! ```
 //!
-//! The layer above uses one fact. The fault of a text is that of the definition: it has more than 2^24 bytes; else
-//! it is not JSON, or has a float; else the first member in the order of the table, which is that of docs/REQUESTS.md,
+//! The layer above uses one fact. The fault of a text is that of the definition: it has more than 2^24 bytes; else it
+//! is not JSON, or has a float; else the first member in the order of the table, which is that of docs/REQUESTS.md,
 //! whatever the order in the text; else the first name that is not there.
 //!
 //! The reader of manifests does not keep a member's name: this is a second pass over the text, for a caller that has to

@@ -6,8 +6,8 @@ use sig_table::{Cause, MemberTable, TableError, fault_here};
 use std::alloc::Global;
 use std::marker::PhantomData;
 
-/// The table of what the reader `R` reads, after a row that rejects other kinds: a value that it does not read
-/// is outside its range. What is read is dropped.
+/// The table of what the reader `R` reads, after a row that rejects other kinds: a value that it does not read is
+/// outside its range. What is read is dropped.
 pub(crate) struct InRange<R: ElementReader> {
     reader: PhantomData<R>,
 }

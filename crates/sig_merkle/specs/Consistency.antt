@@ -1,9 +1,8 @@
--- What a consistency proof leads to (RFC 6962 section 2.1.2): the roots of the first m and of all n
--- leaves of a tree, 0 < m ≤ n, as the hashes of the proof make them. The last hash of a proof is
--- that of a half which is not entered: of the right half, where the first m leaves are within the
--- left, and else of the left half, which both trees have. The hashes before it are the proof within
--- the other half. `known` is the flag of the standard's SUBPROOF: the root of the m leaves, `old`,
--- is the one that the proof is requested for, so the proof does not repeat it.
+-- What a consistency proof leads to (RFC 6962 section 2.1.2): the roots of the first m and of all n leaves of a tree, 0
+-- < m ≤ n, as the hashes of the proof make them. The last hash of a proof is that of a half which is not entered: of
+-- the right half, where the first m leaves are within the left, and else of the left half, which both trees have. The
+-- hashes before it are the proof within the other half. `known` is the flag of the standard's SUBPROOF: the root of the
+-- m leaves, `old`, is the one that the proof is requested for, so the proof does not repeat it.
 --
 -- As `root`, these go down by levels. The law `consistency_roots` states the standard's own recursion.
 use Rattle.std.specs.Prelude.{ℕ, zero, suc, ◌+◌, ◌-◌, ◌^◌, Bool, true, false, List, [], ◌∷◌, reverse, nat_eq, nat_lt}

@@ -102,8 +102,8 @@ IsConsistencyAnswer old_size new_size hashes old new (Err (MismatchedRoot expect
     IsMismatch old_size new_size hashes old new expected.root got.root
 IsConsistencyAnswer old_size new_size hashes old new (Err IndexGtTreeSize) = ⊥
 
--- how many pairs of children a consistency check hashes at most: two for each hash of a proof whose
--- roots were compared, and `None` if it fails otherwise
+-- how many pairs of children a consistency check hashes at most: two for each hash of a proof whose roots were
+-- compared, and `None` if it fails otherwise
 abbrev pub most_steps : Result (Unit {0}) MerkleProofError → ℕ → ℕ
 most_steps (Ok _) count = 2 * count
 most_steps (Err (MismatchedRoot _ _)) count = 2 * count

@@ -1,7 +1,6 @@
--- The consistency proof between the first m entries of a list and all of them, 0 < m: PROOF and
--- SUBPROOF of RFC 6962 section 2.1.2. It has the hashes of the halves that are not entered, the
--- smallest one first, and before them the root of the tree that both have, unless `known` says that
--- the proof is requested for that tree.
+-- The consistency proof between the first m entries of a list and all of them, 0 < m: PROOF and SUBPROOF of RFC 6962
+-- section 2.1.2. It has the hashes of the halves that are not entered, the smallest one first, and before them the root
+-- of the tree that both have, unless `known` says that the proof is requested for that tree.
 --
 -- As `root`, this goes down by levels. The law `consistency_proofs` states the standard's own recursion.
 use Rattle.std.specs.Prelude.{ℕ, zero, suc, ◌-◌, ◌^◌, Bool, true, false, List, [], ◌∷◌, ◌++◌, length, take, drop}

@@ -11,8 +11,7 @@
 //!   and `audit_path`, which are the standard's MTH and PATH. `subproof`: the standard's PROOF.
 //! - `repeats`: what a tree of many equal entries keeps, so that no hash is made twice.
 //! - `front`: the roots of a list and of its first entries together, each node hashed once; `fronts`: those of its
-//!   first
-//!   entries at several sizes.
+//!   first entries at several sizes.
 //! - `entry_collision`, `paths_collision`, `growth_collision`: an accepted proof of an entry that the
 //!   list does not have at the index, accepted proofs of two entries at one index, and an accepted
 //!   consistency proof from a root that is not that of the list's first entries, give two byte strings

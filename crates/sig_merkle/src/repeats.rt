@@ -1,7 +1,7 @@
 //! Hashes that the tree of a list has again and again, where many of its entries are equal.
 //!
-//! A list can have millions of empty entries between others, each of which costs its sender next to nothing.
-//! With these hashes no tree of only such entries is hashed twice.
+//! A list can have millions of empty entries between others, each of which costs its sender next to nothing. With these
+//! hashes no tree of only such entries is hashed twice.
 ghost use Rattle.std.specs.Prelude.{◌≡◌, ◌+◌, ◌<◌, ◌≤◌, []};
 ghost use Rattle.sig_merkle.specs.Root.{leaf_of, node_of};
 

@@ -10,8 +10,8 @@ use std::sync::ledger::Ledger;
 /// Returns how many hashes of the audit path of the leaf at the index are inner ones, and how many are of the tree's
 /// right border (RFC 6962 section 2.1.1). Their sum is the number of hashes of the path, at most 64.
 ///
-/// The inner hashes lie below the node where the path leaves that of the last leaf: as many as the index xor that
-/// of the last leaf has bits. The border hashes are as many as the index has one bits above these.
+/// The inner hashes lie below the node where the path leaves that of the last leaf: as many as the index xor that of
+/// the last leaf has bits. The border hashes are as many as the index has one bits above these.
 #[tactic(auto, using(crate::proofs::WalkSteps::parts_path))]
 pub fn decomp_inclusion_proof(index: u64, tree_size: u64) -> (u64, u64)
     requires { index < tree_size }

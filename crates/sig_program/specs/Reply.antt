@@ -117,9 +117,9 @@ IsVerifyQuestionsReply request reply =
     × AreFewQuestions (inputs request) rows × IsReadBack rows × (reply ≡ listed (rows_text rows))
 
 -- the reply of a command to a text for which every link holds: `log` shows the proof of the one request that the text
--- is, `verify` that of the log entry of its bundle, and `consistency` the two sizes of its request; after these,
--- where the request gives the log's entries, comes the second line; `questions` lists the signatures that the
--- command asks for
+-- is, `verify` that of the log entry of its bundle, and `consistency` the two sizes of its request; after these, where
+-- the request gives the log's entries, comes the second line; `questions` lists the signatures that the command asks
+-- for
 abbrev pub Succeeds : Command → List ℕ → Reply → Type 0
 Succeeds Log text reply =
     (request : LogRequest) → IsRequestOf log_request text request → IsLoggedReply request reply

@@ -84,8 +84,7 @@ verify_with_accepted request rows = record {
   entries = request.entries;
 }
 
--- the request's accepted signatures and these agree on those that a link asks for, also where no list was
--- written
+-- the request's accepted signatures and these agree on those that a link asks for, also where no list was written
 abbrev pub AgreeOnAsked : VerifyRequest → List AcceptedRow → Type 0
 AgreeOnAsked request rows =
     (row : AcceptedRow) → IsAskedBy (inputs request) row → Contains request.accepted row ↔ Contains rows row

@@ -20,8 +20,8 @@ use std::alloc::Global;
 /// list and `,"accepted":` would have more than 2^24 bytes together. Which signatures the request itself accepts does
 /// not matter. Fails only if out of memory.
 ///
-/// For two requests that differ only in accepted signatures that are not asked for, `consistency`
-/// has the same reply, also where no list is written.
+/// For two requests that differ only in accepted signatures that are not asked for, `consistency` has the same reply,
+/// also where no list is written.
 pub fn consistency_questions(alloc: Global, request: &[u8]) -> Result<Reply, OutOfMemory>
     ensures reply { IfOk result (IsReply ConsistencyQuestions request.now) }
     ensures suffice { ConsistencyQuestionsSuffice }

@@ -47,8 +47,8 @@ fn explanation_or_demo(words: &[Text]) -> Option<Invocation>
     }
 }
 
-/// Returns the number of entries for `demo`; `None` if and only if the words are not `demo` and a number from 1
-/// to 4096. It takes no memory.
+/// Returns the number of entries for `demo`; `None` if and only if the words are not `demo` and a number from 1 to
+/// 4096. It takes no memory.
 #[tactic(auto, using(crate::proofs::Invocations::invocations, crate::proofs::CommandNames::naming))]
 fn demo_count(words: &[Text]) -> Option<u64>
     ensures { MatchOption result ((count : ℕ) → ¬ IsDemo words.now count) (IsDemo words.now) }

@@ -32,8 +32,8 @@ use std::alloc::Global;
 /// `,"accepted":` would have more than 2^24 bytes together. Which signatures the request itself accepts does not
 /// matter. Fails only if out of memory.
 ///
-/// For two requests that differ only in accepted signatures that no link asks for, `verify`
-/// has the same reply, also where no list is written.
+/// For two requests that differ only in accepted signatures that no link asks for, `verify` has the same reply, also
+/// where no list is written.
 pub fn verify_questions(alloc: Global, request: &[u8]) -> Result<Reply, OutOfMemory>
     ensures reply { IfOk result (IsReply VerifyQuestions request.now) }
     ensures suffice { VerifyQuestionsSuffice }

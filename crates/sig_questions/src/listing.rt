@@ -88,9 +88,8 @@ impl From<AllocError> for NoQuestions {
 /// rows come in the order in which the links ask:
 ///
 /// - the certificate, and then each further one of the bundle, under the keys of the trust anchors and then of the
-///   further
-///   certificates: those of two that come one after the other in a path from the certificate to a trust anchor that
-///   would hold if every signature were genuine (RFC 5280 section 6.1);
+///   further certificates: those of two that come one after the other in a path from the certificate to a trust anchor
+///   that would hold if every signature were genuine (RFC 5280 section 6.1);
 /// - what its SCT signs, under the point of the SCT's log, as issued under each of these keys in such a path (RFC 6962
 ///   section 3.2);
 /// - the encoding of the envelope (DSSE protocol), or the SHA-256 digest of the artifact, under the certificate's key;

@@ -39,8 +39,7 @@ IsHashFault other_length text e =
 abbrev pub AreHashTexts : List (List ℕ) → Type 0
 AreHashTexts texts = AllByRecursion IsHashText texts
 
--- *Fault of hashes*: the fault of the first text that is not a hash; its index is the number of hashes before
--- it
+-- *Fault of hashes*: the fault of the first text that is not a hash; its index is the number of hashes before it
 pub record IsHashesFault (texts : List (List ℕ)) (e : SigstoreError) : Type 0 where
   pub before : List (List ℕ)
   pub text : List ℕ
@@ -69,8 +68,7 @@ abbrev pub IsTextFault : List ℕ → SigstoreError → Type 0
 IsTextFault text e =
     (fault : CheckpointFault) × (text ≢ []) × IsCheckpointFault text fault × (e ≡ ParseCheckpointError fault)
 
--- *Fault of a proof of the API*: that of the hashes; else that of the root; else that of the
--- checkpoint
+-- *Fault of a proof of the API*: that of the hashes; else that of the root; else that of the checkpoint
 abbrev pub IsProofFault : RekorInclusionProof → SigstoreError → Type 0
 IsProofFault api e =
     IsHashesFault api.hashes e

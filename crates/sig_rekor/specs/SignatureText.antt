@@ -29,9 +29,9 @@ fingerprint_len = 4
 abbrev pub fingerprint_and_raw : CheckpointSignature → List ℕ
 fingerprint_and_raw signature = signature.key_fingerprint ++ signature.raw
 
--- *Signature*: with newlines trimmed, the text starts with an em dash and has three parts between single spaces.
--- The second is the name, and the third, white space at its end dropped, the base64 of the fingerprint's four bytes
--- and the signature
+-- *Signature*: with newlines trimmed, the text starts with an em dash and has three parts between single spaces. The
+-- second is the name, and the third, white space at its end dropped, the base64 of the fingerprint's four bytes and the
+-- signature
 pub record IsSignature (text : List ℕ) (signature : CheckpointSignature) : Type 0 where
   pub line : List ℕ
   pub after_dash : List ℕ

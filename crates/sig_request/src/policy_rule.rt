@@ -45,8 +45,8 @@ impl ElementReader for RuleReader {
     }
 }
 
-/// The policy of an identity with its issuer, or of an issuer only; `None` without both. Fails with `Member`
-/// for an identity without an issuer.
+/// The policy of an identity with its issuer, or of an issuer only; `None` without both. Fails with `Member` for an
+/// identity without an issuer.
 #[tactic(auto, unfolding(crate::specs::Policy::issuer_policy))]
 fn issuer_policy(
     alloc: Global,

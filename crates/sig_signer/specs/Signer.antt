@@ -1,5 +1,5 @@
--- *Signer*: the signer that a certificate names: its key, its subject and its claims, if a pool finds its issuer
--- and it passes the checks of a certificate that signed.
+-- *Signer*: the signer that a certificate names: its key, its subject and its claims, if a pool finds its issuer and it
+-- passes the checks of a certificate that signed.
 use Rattle.std.specs.Prelude.{◌≡◌, ◌⊎◌, ℕ, ℤ, List, Option, Some, None, Result, Ok, Err}
 use Rattle.sig_base.specs.ResultSteps.{◌>>=◌}
 use Rattle.sig_base.specs.declared.error.SigstoreError.{SigstoreError}

@@ -19,8 +19,8 @@ pub record AreKept (extensions kept : List Extension) : Type 0 where
   pub others : AllByRecursion (λ e. e.oid ≢ sct_list) kept
   pub scts : AllByRecursion (λ e. e.oid ≡ sct_list) lists
 
--- The bytes are the TBSCertificate of a certificate that has every part of this one, and its extensions except
--- those that list SCTs, each with its bytes.
+-- The bytes are the TBSCertificate of a certificate that has every part of this one, and its extensions except those
+-- that list SCTs, each with its bytes.
 pub record IsPrecertificate (c : Cert) (tbs : List ℕ) : Type 0 where
   pub extensions : List Extension
   pub kept : AreKept c.extensions extensions

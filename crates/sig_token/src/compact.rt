@@ -1,5 +1,5 @@
-//! The three parts of a token: its header, its payload and its signature, joined by points (RFC 7515
-//! section 7.1, JWS Compact Serialization).
+//! The three parts of a token: its header, its payload and its signature, joined by points (RFC 7515 section 7.1, JWS
+//! Compact Serialization).
 ghost use Rattle.std.specs.Prelude.{◌≡◌, [], ◌∷◌, option_map, MatchOption};
 ghost use Rattle.std.specs.List.{slice_split};
 ghost use Rattle.sig_token.specs.Compact.{is_point, payload_of};

@@ -1,5 +1,5 @@
--- An envelope as it is shown: the predicate type and the subjects of its payload, a statement (in-toto
--- attestation framework, "Statement layer specification v1").
+-- An envelope as it is shown: the predicate type and the subjects of its payload, a statement (in-toto attestation
+-- framework, "Statement layer specification v1").
 use Rattle.std.specs.Prelude.{ℕ, List, [], ◌∷◌, ◌++◌, codes, length, take, Option, Some, None}
 use Rattle.std.specs.Result.{result_ok}
 use Rattle.sig_base.specs.OptionSteps.{◌>>=◌}

@@ -1,5 +1,5 @@
--- *Held root*: what a trusted root gives at a time, and the result of a bundle under it. A root is made from its
--- text once, and each bundle's result is that of offline verification from the root's text on.
+-- *Held root*: what a trusted root gives at a time, and the result of a bundle under it. A root is made from its text
+-- once, and each bundle's result is that of offline verification from the root's text on.
 use Rattle.std.specs.Prelude.{◌≡◌, ℕ, ℤ, true, List, Result, Ok, Err}
 use Rattle.std.specs.Borrow.{Bor}
 use Rattle.std.specs.List.{AllByRecursion}

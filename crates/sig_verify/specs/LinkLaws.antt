@@ -35,8 +35,8 @@ use Rattle.sig_verify.specs.declared.logged_entry.LoggedEntry.{LoggedEntry}
 use Rattle.sig_verify.specs.declared.offline_error.OfflineError.{OfflineError}
 use Rattle.sig_verify.specs.declared.offline_error.OfflineError.TheVariants.{Bundle as Refused}
 
--- a log's entry gives a value if and only if the links `log-key` to `inclusion` hold, and an error is that of
--- the first that does not
+-- a log's entry gives a value if and only if the links `log-key` to `inclusion` hold, and an error is that of the first
+-- that does not
 abbrev pub EntriesAreJudged : Type 0
 EntriesAreJudged = (spki : AcceptsSpki) (keys : LogKeys) (e : TransparencyLogEntry) → IsOfBytes keys e
     → Tells (HoldsOfEntry spki keys e) entry_links (log_entry_answer spki keys e)
@@ -50,8 +50,8 @@ abbrev pub EntriesAreKept : Type 0
 EntriesAreKept = (spki : AcceptsSpki) (keys : LogKeys) (e : TransparencyLogEntry) (offline : LoggedEntry)
     → log_entry_answer spki keys e ≡ Ok offline → IsKept e offline
 
--- a bundle's own checks pass if and only if the links `material` to `profile` hold, and an error is that of the
--- first that does not
+-- a bundle's own checks pass if and only if the links `material` to `profile` hold, and an error is that of the first
+-- that does not
 pub record BundlesAreJudged : Type 0 where
   pub passed : (b : Bundle) (c : Checked) → IsChecked b (Ok c) → AllByRecursion (HoldsOfBundle b) bundle_links
   pub passes : (b : Bundle) → AllByRecursion (HoldsOfBundle b) bundle_links → (c : Checked) × IsChecked b (Ok c)
@@ -82,8 +82,8 @@ TimesAreJudged = (k : Checker) (policy : PolicyOf) (trust : Trust) (d : Artifact
 abbrev pub trust_of : Trusted → Trust
 trust_of trusted = record { anchors = trusted.anchors; points = point_at trusted.ring }
 
--- if the reader of SCTs says what a certificate has, the result for it is that of the first of the links
--- `issuance`, `issuer` and `sct` that fails
+-- if the reader of SCTs says what a certificate has, the result for it is that of the first of the links `issuance`,
+-- `issuer` and `sct` that fails
 abbrev pub IssuersAreJudged : Type 0
 IssuersAreJudged =
     (k : Checker) (policy : PolicyOf) (trusted : Trusted) (d : ArtifactDigest) (offline : Bool) (c : Checked)
@@ -131,8 +131,8 @@ VerdictsAreJudged =
     → Tells (HoldsOfVerified k policy (trust_of trusted) d offline b) (bundle_links ++ certificate_links)
     (renamed result)
 
--- a trusted root gives a verifier at a time only if the links `fulcio`, `anchor` and `ctfe` hold, and an error
--- is that of the first that does not, unless memory ran out
+-- a trusted root gives a verifier at a time only if the links `fulcio`, `anchor` and `ctfe` hold, and an error is that
+-- of the first that does not, unless memory ran out
 pub record RootsAreJudged : Type 0 where
   pub made : (root : TrustedRoot) (now : ℤ) (trusted : Trusted)
       → IsVerifierOf (authorities_of root now) (ct_keys_of root now) trusted

@@ -38,9 +38,9 @@ pub(crate) enum RootFault {
 }
 
 impl HeldRoot {
-    /// Returns what this text, a trusted root, gives at a time in whole seconds since 1970. Fails with `Json`
-    /// of the link `root-json` if and only if the text is not a trusted root, unless memory runs out, and else only
-    /// with `OutOfMemory`. The links `fulcio`, `anchor` and `ctfe` come after `bundle-json`: their error is kept, and
+    /// Returns what this text, a trusted root, gives at a time in whole seconds since 1970. Fails with `Json` of the
+    /// link `root-json` if and only if the text is not a trusted root, unless memory runs out, and else only with
+    /// `OutOfMemory`. The links `fulcio`, `anchor` and `ctfe` come after `bundle-json`: their error is kept, and
     /// [`HeldRoot::verify`] returns it.
     pub fn read(alloc: Global, text: &[u8], now: i64) -> Result<HeldRoot, OfflineError>
         ensures { UnlessMemory OfflineError.OutOfMemory result (IsHeldIn text.now now result) }

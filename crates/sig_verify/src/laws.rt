@@ -72,8 +72,8 @@ pub fn issuers()
     ensures { IssuersAreJudged }
 {}
 
-/// A verifier's result for a bundle that passed its own checks is `Ok` if and only if the links `issuance` to
-/// `time` hold, and else the error of the first that does not.
+/// A verifier's result for a bundle that passed its own checks is `Ok` if and only if the links `issuance` to `time`
+/// hold, and else the error of the first that does not.
 pub fn checked_bundles()
     ensures { CheckedAreJudged }
 {}

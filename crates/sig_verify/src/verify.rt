@@ -27,11 +27,9 @@ impl Verifier {
     /// - `Bundle`, as of [`CheckedBundle::try_from_bundle`];
     /// - `Certificate` of `Malformed`: the certificate does not have the profile of one that a trust anchor may issue;
     /// - `Certificate` of `VerificationFailed`: no certification path (RFC 5280 section 6.1) leads from it, at the
-    ///   first
-    ///   second of its validity, over the further certificates of the bundle to a trust anchor;
+    ///   first second of its validity, over the further certificates of the bundle to a trust anchor;
     /// - `Certificate` of `Sct`: no Certificate Transparency log vouches for it under the key of the first issuer in
-    ///   such
-    ///   a path, the trust anchors in order and then the further certificates;
+    ///   such a path, the trust anchors in order and then the further certificates;
     /// - `Policy` of the policy's refusal;
     /// - `Signature` of `AlgoUnsupported`: its key is of a kind that no signature is checked with;
     /// - `Signature` of `DigestAlgorithmUnsupported`: a signature over an artifact, and the digest is not SHA-256;

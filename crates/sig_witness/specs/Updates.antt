@@ -40,8 +40,7 @@ abbrev pub grown_log : KeptLog → ChainHead → KeptLog
 grown_log log head = record { key = log.key; chain = log.chain ++ head ∷ [] }
 
 -- the five conditions under which an update is taken: this log is kept at its origin, the log signed it, the old size
--- is that of the kept head, the hashes show that the new tree grew from the kept head's, and there is
--- room for one more
+-- is that of the kept head, the hashes show that the new tree grew from the kept head's, and there is room for one more
 pub record IsTaken (accepts : VerifyScheme → List ℕ → List ℕ → List ℕ → Bool) (logs : List (List ℕ × KeptLog))
     (update : Update) (log : KeptLog) : Type 0 where
   pub kept : text_lookup (origin_of update) logs ≡ Some log

@@ -27,8 +27,8 @@ use sig_rekor::SignedCheckpoint;
 use std::alloc::Global;
 use std::marker::Model;
 
-/// The key of each origin's log, and the tree heads that were taken, from the oldest to the latest. Contracts see
-/// the list of its entries, each origin once, in byte order of the origins.
+/// The key of each origin's log, and the tree heads that were taken, from the oldest to the latest. Contracts see the
+/// list of its entries, each origin once, in byte order of the origins.
 #[derive(Drop)]
 pub struct Witness {
     pub(crate) logs: Logs,

@@ -24,8 +24,7 @@ witness_with_accepted request rows = record {
   accepted = rows;
 }
 
--- the request's accepted signatures and these agree on those that the updates ask for, also where no list was
--- written
+-- the request's accepted signatures and these agree on those that the updates ask for, also where no list was written
 abbrev pub AgreeOnNotes : WitnessRequest → List AcceptedRow → Type 0
 AgreeOnNotes request rows =
     (start : Logs) (updates : List Update) → IsStart request start → AreUpdates request.updates updates

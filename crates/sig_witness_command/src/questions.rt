@@ -21,9 +21,8 @@ use std::alloc::Global;
 /// request that `witness` replies to, or text, list and `,"accepted":` would have more than 2^24 bytes together. Which
 /// signatures the request itself accepts does not matter. Fails only if out of memory.
 ///
-/// For two requests that differ only in accepted signatures that are not asked for, `witness`
-/// has the same reply, also where no list is written. And a list that is written fits one request with the request that
-/// it is of.
+/// For two requests that differ only in accepted signatures that are not asked for, `witness` has the same reply, also
+/// where no list is written. And a list that is written fits one request with the request that it is of.
 pub fn witness_questions(alloc: Global, request: &[u8]) -> Result<Reply, OutOfMemory>
     ensures reply { IfOk result (IsWitnessQuestionsReply request.now) }
     ensures suffice { WitnessQuestionsSuffice }

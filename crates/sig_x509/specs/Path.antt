@@ -87,8 +87,8 @@ abbrev pub IsNext : Cert → List Cert → Cert → Cert → Cert → Type 0
 IsNext c [] anchor y x = (y ≡ c) × (x ≡ anchor)
 IsNext c (z ∷ zs) anchor y x = ((y ≡ c) × (x ≡ z)) ⊎ IsNext z zs anchor y x
 
--- The checker's result for the signature of y under the key of x matters only if c has the profile, and a path
--- that would lead from it to a trust anchor, if every signature were genuine, has x after y. So the issuer of y is the
+-- The checker's result for the signature of y under the key of x matters only if c has the profile, and a path that
+-- would lead from it to a trust anchor, if every signature were genuine, has x after y. So the issuer of y is the
 -- subject of x.
 pub record IsAskedOn (pool : Pool) (c : Cert) (t : ℤ) (y x : Cert) : Type 0 where
   pub profile : HasProfile c

@@ -7,8 +7,8 @@ use crate::issuance::may_issue;
 use sig_base::OutOfMemory;
 use sig_certificate::Certificate;
 
-/// Adds the intermediates of a pool that may issue at the time, and marks each other one as absent. Fails
-/// only if out of memory.
+/// Adds the intermediates of a pool that may issue at the time, and marks each other one as absent. Fails only if out
+/// of memory.
 #[tactic(auto, using(crate::proofs::SeenCandidates::pushed_laws))]
 pub(crate) fn push_intermediates<'a>(
     listed: &mut Vec<Option<&'a Certificate>>,

@@ -235,8 +235,7 @@ fn down_row(
     Ok(row)
 }
 
-/// Whether it is reached from the leaf at the place with `others` before it; the row is that of the place
-/// before.
+/// Whether it is reached from the leaf at the place with `others` before it; the row is that of the place before.
 fn node_reached(node: &Node, others: u32, previous: &[bool]) -> bool
     ensures { result ≡ node_reached others previous.now node.now }
 {

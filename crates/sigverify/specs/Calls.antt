@@ -27,8 +27,8 @@ abbrev pub WereInterrupted : Option (List Outcome) → Option (List Outcome) →
 WereInterrupted None new count = ⊤
 WereInterrupted (Some before) new count = new ≡ Some (before ++ interrupted count)
 
--- The calls that were made, where they are told: any number that were interrupted, and then one that came to
--- this; that one was interrupted only if it was the last of 2^64 - 1 calls.
+-- The calls that were made, where they are told: any number that were interrupted, and then one that came to this; that
+-- one was interrupted only if it was the last of 2^64 - 1 calls.
 abbrev pub AreMadeUntil : Option (List Outcome) → Option (List Outcome) → Outcome → Type 0
 AreMadeUntil None new outcome = ⊤
 AreMadeUntil (Some before) new outcome =

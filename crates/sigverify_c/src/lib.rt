@@ -1,7 +1,7 @@
 //! `sigverify_c`: the replies of the commands, and the explained ones, as a static library for C.
 //!
-//! An export takes references: what C passes for one is a pointer, after that of a slice its length, and nothing
-//! for the allocator, which is the C program's own. [`answer`] is the library; an export calls it and says its clauses
+//! An export takes references: what C passes for one is a pointer, after that of a slice its length, and nothing for
+//! the allocator, which is the C program's own. [`answer`] is the library; an export calls it and says its clauses
 //! again. No call keeps anything, so that calls of several threads do not meet.
 //!
 //! `adapters/c/sigverify.h` declares the exports, and says what a caller owes.

@@ -1,7 +1,7 @@
 //! Cases of bundles that are verified offline: `stdin` lists calls, and `stdout` what they return.
 //!
-//! Their origin: `tools/verify_cases.py` over `tools/fixture.py`, programs in another language that were written
-//! from the standards. What changes of the fixture's request and what comes of it is stated by hand, row by row, in
+//! Their origin: `tools/verify_cases.py` over `tools/fixture.py`, programs in another language that were written from
+//! the standards. What changes of the fixture's request and what comes of it is stated by hand, row by row, in
 //! `tools/verify_rows.py` and beside it, and `tools/verify_links.py`, which checks the links on its own, says the same.
 //! `tools/verify_calls.py` has the calls of the parts, of questions and of trusted roots, and the texts of errors.
 #![tactic(auto)]

@@ -1,8 +1,8 @@
 //! Cases of sig_witness: sequences of origins and updates, with the witness written and read after each; texts of
 //! states; and what heads are beside a list. `stdin` lists calls, and `stdout` what they return.
 //!
-//! Their origin: `tools/witness_cases.py`, a program in another language that keeps heads in a dictionary and
-//! judges one update at a time, with trees and proofs by the recursions of RFC 6962.
+//! Their origin: `tools/witness_cases.py`, a program in another language that keeps heads in a dictionary and judges
+//! one update at a time, with trees and proofs by the recursions of RFC 6962.
 #![tactic(auto)]
 
 mod lists;

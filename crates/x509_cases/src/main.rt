@@ -1,10 +1,9 @@
 //! Cases of certificates, their profiles, SCTs, pools and policies: `stdin` lists calls, and `stdout` what they
 //! return.
 //!
-//! Their origin: `tools/x509_cases.py` and `tools/fixture.py`, programs in another language that were written
-//! from RFC 5280, RFC 6962 and X.690; the reasons of refusals are stated by hand, row by row, in
-//! `tools/x509_cases.txt`, and OpenSSL names the places of the parts of the two certificates of Sigstore that the
-//! tables begin with.
+//! Their origin: `tools/x509_cases.py` and `tools/fixture.py`, programs in another language that were written from RFC
+//! 5280, RFC 6962 and X.690; the reasons of refusals are stated by hand, row by row, in `tools/x509_cases.txt`, and
+//! OpenSSL names the places of the parts of the two certificates of Sigstore that the tables begin with.
 #![tactic(auto)]
 
 mod asked;
