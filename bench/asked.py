@@ -26,7 +26,7 @@ def largest(make):
 
 
 def requests():
-    """Of each request the command, what it is, how it is made of a size, and the list; `None` if its status alone is looked at."""
+    """For each request the command, what it is, how it is made for a size, and the list; `None` if only its status is looked at."""
     for name, make in chains.QUESTIONS:
         yield "verify", name, largest(make), None
     for name, make, has_room in gate_roots.QUESTIONS:

@@ -1,4 +1,4 @@
-"""Requests of `verify` with many of one kind: each a function from a count to the bytes. Nothing but the list grows:
+"""Requests of `verify` with many of one kind: each a function from a count to the bytes. Only the list grows:
 the rest is the fixture of tools/fixture.py, of which each link holds unless the table says another reply."""
 import random
 
@@ -39,7 +39,7 @@ def leaf_of_extensions(count):
 
 
 def names_of(count):
-    """So many identities that share a prefix, in no order."""
+    """This many identities that share a prefix, in no order."""
     return [fixture.WORKFLOW + place.hex() for place in numbered(b"", count)]
 
 
@@ -112,7 +112,7 @@ def all_other_names(count):
 
 
 def digests(count):
-    """So many digests of a subject, of which two can be compared, and neither is the artifact's."""
+    """This many digests of a subject, of which two can be compared, and neither is the artifact's."""
     others = {f"other{place}": "a5" * 32 for place in range(count - 2)}
     return {"sha256": "c" * 64, "sha512": "c" * 128, **others}
 
@@ -236,7 +236,7 @@ def ignored(place, make_items):
     return make
 
 
-# Where a member is ignored that a tree is made of, and how deep it lies.
+# Where an ignored member is of which a tree is made, and how deep it is.
 PLACES = (("trusted root", 3), ("log entry", 4), ("row", 3))
 
 
@@ -289,7 +289,7 @@ def object_around(count):
 
 
 def floats(count):
-    """So many members that hold a float each, and as many that replace them."""
+    """This many members that hold a float each, and as many that replace them."""
     names = [place.hex() for place in numbered(b"", count // 2)]
     return b"0," + b",".join(b'"%s":%s' % (name.encode(), value) for value in (b"1.5", b"1") for name in names)
 

@@ -27,7 +27,7 @@ UTF8_STRING, SET, SEQUENCE, COMMON_NAME = 0x0C, 0x31, 0x30, bytes.fromhex("06035
 # What is wrong with a request is looked for member by member, up to the last.
 
 def last_row(count):
-    """So many accepted signatures, the last of which has no scheme."""
+    """This many accepted signatures, the last of which has no scheme."""
     rows = [shapes.row(signature=signature) for signature in numbered(b"s" * 66, count)]
     return shapes.request(accepted=[*rows, {**rows[0], "scheme": None}])
 
@@ -45,7 +45,7 @@ def last_float(count):
 
 
 def last_rule(count):
-    """So many rules of a policy, the last of which is not one."""
+    """This many rules of a policy, the last of which is not one."""
     return written_policy([{"ref": "x"}] * count + [{}])
 
 
@@ -162,12 +162,12 @@ OWN = {
 
 
 def of_count(made_by, make):
-    """How a request is made of a size by a table that also says what is written of it."""
+    """How a request is made for a size by a table that also says what is written about it."""
     return lambda size: make(made_by.count_of(make, size))[0]
 
 
 def of_tables(kinds_of):
-    """The command, what the request is, and how it is made of a size, of those of the commands' own tables."""
+    """The command, what the request is, and how it is made for a size, for those of the commands' own tables."""
     for command, kinds in {**kinds_of, "verify": chains.REQUESTS}.items():
         for requests in kinds.values():
             for title, make in requests:
@@ -180,7 +180,7 @@ def of_tables(kinds_of):
 
 
 def own():
-    """The same of those whose explanations cost most."""
+    """The same for those whose explanations cost most."""
     for command, kinds in OWN.items():
         for title, make in kinds:
             yield command, title, largest(make)

@@ -20,12 +20,12 @@ def all_of_one(count):
 
 
 def any_of_a_length(count):
-    """Rules whose texts are as long as the certificate's, and agree with it in all bytes but the last."""
+    """Rules whose texts are as long as the certificate's, and agree with it in all bytes except the last."""
     return manifests.of_bundles(with_ref(b"x" * 64, policy={"any": [{"ref": "x" * 63 + "y"}] * count}))
 
 
 def named(names, **changes):
-    """A request whose certificate has these names, by the word of the issuer `i`."""
+    """A request whose certificate has these names, from the issuer `i`."""
     listed = der(SEQUENCE, *[der(URI, name.encode()) for name in names])
     held = fixture.leaf_extensions(names=extension(SUBJECT_ALTERNATIVE_NAME, listed, critical=True), issued=extension(FULCIO["issuer"], b"i"))
     return fixture.Request(leaf=leaf(held), **changes)

@@ -87,7 +87,7 @@ def beside_short_rows(place, size, made=fixture.Request):
 
 
 def beside_equal_rows(place, made=fixture.Request):
-    """The same, and the others agree with the one in key and message too, in all bytes but the last."""
+    """The same, and the others agree with the one in key and message too, in all bytes except the last."""
     def make(count):
         request = made()
         accepted = request.accepted()

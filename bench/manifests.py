@@ -1,4 +1,4 @@
-"""Manifests of `gate` by the request of `verify` that their bundles are of, and what is written of them."""
+"""Manifests of `gate` by the request of `verify` from which their bundles are, and what is written about them."""
 import sys
 
 import measure

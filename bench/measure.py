@@ -23,7 +23,7 @@ class Bench:
     """A run of this program: what it measures, its inputs, how often each command runs, which goals were missed."""
 
     program = None  # sigverify's
-    reader = None  # sig_bench's, which reads one certificate or one document alone
+    reader = None  # sig_bench's, which reads only one certificate or one document
 
     def __init__(self, runs, most):
         self.runs = runs

@@ -50,7 +50,7 @@ def heads_of_signatures(count):
 
 
 def heads_of_hashes(count):
-    """As many heads of one tree, each with this many hashes, which the first alone may have."""
+    """As many heads of one tree, each with this many hashes, which only the first may have."""
     return shapes.audit([{**shapes.HEAD, "hashes": ["a5" * 32] * count}] * HEADS)
 
 

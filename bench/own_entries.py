@@ -1,4 +1,4 @@
-"""Requests of `log`, of `consistency` and of `audit` with the log's own entries, and what hashing those takes alone."""
+"""Requests of `log`, of `consistency` and of `audit` with the log's own entries, and what only hashing those takes."""
 import functools
 import hashlib
 import random
@@ -23,7 +23,7 @@ def node(left, right):
 
 def levels(entries):
     """The hashes of a tree, level by level, from the leaves to the root (RFC 6962 section 2.1). A node without a
-    neighbour stands in the next level as it is."""
+    neighbour is in the next level unchanged."""
     return levels_above([leaf(entry) for entry in entries])
 
 

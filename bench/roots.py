@@ -18,7 +18,7 @@ def with_anchors(made, anchors):
 
 
 def keys(count):
-    """So many keys of P-256 whose points share a prefix, in no order."""
+    """This many keys of P-256 whose points share a prefix, in no order."""
     prefix = fixture.key(9)[:-4]
     return list(numbered(prefix, count))
 
@@ -31,7 +31,7 @@ def one_name(count):
 
 
 def turned(content):
-    """The bytes with another last one."""
+    """The bytes with a different last one."""
     return content[:-1] + bytes([content[-1] ^ 1])
 
 
@@ -77,7 +77,7 @@ def anchors_over_intermediates(count):
 
 
 def anchors_by_name(count):
-    """Trust anchors whose names share all but the last bytes with the leaf's issuer."""
+    """Trust anchors whose names share all bytes except the last with the leaf's issuer."""
     issuer = fixture.name(FAR)
     made = fixture.Request(anchor=fixture.anchor(subject=issuer), leaf=leaf(issuer=issuer))
     names = [fixture.name(FAR[:-8] + "%08d" % place) for place in range(count)]

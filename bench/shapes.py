@@ -24,7 +24,7 @@ def coded(data):
 
 
 def numbered(prefix, count):
-    """So many byte strings that share a prefix, in no order, each once."""
+    """This many byte strings that share a prefix, in no order, each once."""
     places = list(range(count))
     random.Random(count).shuffle(places)
     return (prefix + place.to_bytes(4, "big") for place in places)
@@ -117,7 +117,7 @@ def rows_by_message(count):
 
 
 def signatures_and_rows(count):
-    """As many signatures of a note as rows, of which the last alone agree."""
+    """As many signatures of a note as rows, of which only the last agree."""
     lines = [signature_line(signature) for signature in numbered(b"s" * 66, count)] + [signature_line(b"sig")]
     rows = [row(signature=signature) for signature in numbered(b"t" * 66, count)] + [row()]
     return request(checkpoint=NOTE + "\n" + "\n".join(lines), accepted=rows)
@@ -204,7 +204,7 @@ def object_of(names):
 
 
 def chosen(count, prefix=""):
-    """So many different names of four letters after a prefix, in no order."""
+    """This many different names of four letters after a prefix, in no order."""
     return [prefix + letters(place) for place in random.Random(count).sample(range(len(LETTERS) ** 4), count)]
 
 

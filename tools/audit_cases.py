@@ -77,7 +77,7 @@ def row(key, note, signature):
 
 
 def rows_of(heads, without=None):
-    """The rows under which each head is signed, but the one at a place."""
+    """The rows under which each head is signed, except the one at a place."""
     return list(dict.fromkeys(row(KEY, each.note(), SIGNATURE) for place, each in enumerate(heads) if place != without))
 
 

@@ -156,7 +156,7 @@ def checkpoint(size, root, origin=ORIGIN, signatures=(SIGNATURE,)):
 
 
 def head(entries, before=None, **changes):
-    """The head of a log of these entries that had so many before; None: it is the first."""
+    """The head of a log of these entries that had this many before; None: it is the first."""
     entries = tuple(entries)
     hashes = [digest.hex() for digest in trees.subproof(before, list(entries), True)] if before else []
     parts = {"size": len(entries), "root": root_of(entries), "origin": ORIGIN, "signatures": (SIGNATURE,)} | changes
@@ -222,7 +222,7 @@ def first_rows():
 
 
 def links():
-    """Each link as the first that fails, at each place, alone and before others."""
+    """Each link as the first that fails, at each place, by itself and before others."""
     whole = request(HEADS, WATCHED, ENTRIES)
     yield whole
     for place, found in enumerate(HEADS):
@@ -324,7 +324,7 @@ def many_watches():
 
 
 def forged_logs(count, sizes, entries):
-    """A log at these sizes: whole, beside other lists, and with one head forged, one proof changed, one watch moved at each place of so many."""
+    """A log at these sizes: whole, beside other lists, and with one head forged, one proof changed, one watch moved at each of this many places."""
     heads = heads_of(sizes, entries)
     watched = [watch(place, sizes[place] - 1 - place % sizes[place], entries[: sizes[place]]) for place in range(0, len(sizes), 3) if sizes[place]]
     yield request(heads, watched, entries)

@@ -301,7 +301,7 @@ def merkle():
         rows()
 
 
-# one leaf; inner hashes alone and border hashes alone; the most of either
+# one leaf; only inner hashes and only border hashes; the most of either
 DECOMPOSED = [(0, 1), (0, 8), (2, 5), (6, 7), (1227, 14358), (0, 2 ** 63 + 1), (2 ** 63 - 1, 2 ** 64 - 1), (2 ** 64 - 2, 2 ** 64 - 1)]
 
 

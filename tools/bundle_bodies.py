@@ -61,7 +61,7 @@ def proof_case(line):
 
 
 def get(value, name):
-    """The member of an object, none where it is absent or null."""
+    """The member of an object, None where it is absent or null."""
     ask(isinstance(value, dict) and value.get(name) is not None)
     return value[name]
 

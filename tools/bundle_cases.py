@@ -100,7 +100,7 @@ def fetched(request, digest):
         case("tlog_entry %s %s %s" % (offline, digest, compact(bundle, canonical=True)), "ok " + offline)
 
 
-# What stands for itself.
+# What stands for itself in a row.
 
 def versions():
     group("media types that name a version, and how the version is shown")
@@ -214,7 +214,7 @@ def promises():
 
 
 def cut_leaves():
-    """A certificate is one to its last byte, and no byte comes after it: the fixture's leaf is none where it is cut, at each byte, or has a byte more."""
+    """A certificate ends with its last byte, and no byte comes after it: the fixture's leaf is not a certificate if it is cut, at any byte, or has a byte more."""
     group("the fixture's leaf cut at each byte, and with a byte after it")
     leaf = fixture.Request().leaf_der
     for content in [leaf[:size] for size in range(len(leaf))] + [leaf + b"\0", leaf + leaf[-1:], leaf + leaf]:

@@ -48,7 +48,7 @@ def proof_len(m, n, known=True):
 
 
 def walk(first, second, path, first_hash):
-    """The two roots that a path leads to (RFC 9162 section 2.1.4.2); none where its length does not fit."""
+    """The two roots to which a path leads (RFC 9162 section 2.1.4.2); None where its length does not fit."""
     path = list(path)
     if first & (first - 1) == 0:
         path.insert(0, first_hash)
@@ -199,7 +199,7 @@ def small():
 
 
 def longest():
-    """Of 2^64 - 1 leaves, the proof from one leaf, and that from all but one."""
+    """For 2^64 - 1 leaves, the proof from one leaf, and that from all except one."""
     one, other = leaf_hash(b""), bytes([1] * 32)
     most = 2 ** 64 - 1
     for old in (1, most - 1, 2 ** 63, 2 ** 63 + 1):

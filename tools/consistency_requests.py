@@ -201,7 +201,7 @@ def changed(entries, place):
 
 def of_sizes(old, new):
     """Requests of a log of this size that had this many entries: with the log's list, with an entry of the front and one after it changed, and
-    with one entry more and one fewer; with the last entry first; and with the old tree's entries alone."""
+    with one entry more and one fewer; with the last entry first; and with only the old tree's entries."""
     entries = [f"entry {number}".encode() for number in range(new)]
     yield request(old, entries, entries)
     if old:

@@ -366,7 +366,7 @@ LEFT = {}  # by the call that changes a layer, the lines that it may have out of
 
 
 def marked(beside, asked):
-    """What is beside the image with these annotations, none where a name has another value."""
+    """What is beside the image with these annotations, None where a name has another value."""
     creator, timestamp, extra = (None, None, {}) if beside is None else beside
     if any(name in extra and (extra[name] != text or not isinstance(extra[name], str)) for name, text in asked.items()):
         return None

@@ -1,4 +1,4 @@
-"""Rows of the layers of Sigstore bundles for tools/cosign_cases.py. What each call returns is told by tools/cosign_bundles.py."""
+"""Rows of the layers of Sigstore bundles for tools/cosign_cases.py. tools/cosign_bundles.py says what each call returns."""
 import copy
 import itertools
 from types import SimpleNamespace

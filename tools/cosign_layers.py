@@ -183,7 +183,7 @@ def layer_of(descriptor, fetched, source, trust, payloads):
 
 
 def built(descriptors, fetched, source, trust, payloads):
-    """What is made of each descriptor with the first layer of its digest."""
+    """What is made from each descriptor with the first layer of its digest."""
     made = []
     for descriptor in descriptors:
         of_digest = [each for each in fetched if digest_of(each.content) == descriptor.digest]

@@ -1,5 +1,5 @@
-"""Rows of the layers of manifests, and of what is shown about payloads and layers, for tools/cosign_cases.py. What each call returns is told by
-tools/cosign_layers.py."""
+"""Rows of the layers of manifests, and of what is shown about payloads and layers, for tools/cosign_cases.py. tools/cosign_layers.py says
+what each call returns."""
 import itertools
 
 import cosign_layer_rows as rows_of

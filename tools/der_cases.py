@@ -36,7 +36,7 @@ def header(b):
         if k == 0 or k > 4:
             raise Fault("Length")
         octets = b[2:2 + k]
-        # the fewest octets: the first is not 0, and one alone is not below 128; told as soon as it shows
+        # the fewest octets: the first is not 0, and a single one is not below 128; this is said as soon as it shows
         if octets and (octets[0] == 0 or (k == 1 and octets[0] < 0x80)):
             raise Fault("Length")
         if len(octets) < k:

@@ -13,7 +13,7 @@ BESIDE = None  # as a row's name: of these members at most one is there
 
 
 def single(reader, is_of_kind=lambda value: False):
-    """A value that a reader takes; one that it does not take is beyond its range if it is of the kind, and else of another kind."""
+    """A value that a reader takes; one that it does not take is beyond its range if it is of the kind, and otherwise of another kind."""
     def fault(value):
         try:
             bundles.ask(value is not None)

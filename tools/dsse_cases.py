@@ -233,7 +233,7 @@ ENVELOPES = [
 
 
 def escaped(text):
-    """RFC 8785 section 3.2.2.2: DEL and all above 1f stand as they are."""
+    """RFC 8785 section 3.2.2.2: DEL and all above 1f are written as they are."""
     return text.replace("\\u007f", "\x7f")
 
 

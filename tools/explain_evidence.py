@@ -120,7 +120,7 @@ def accepted_note(rows, scheme, under, checkpoint):
 
 
 def subjects(case):
-    """The digest in hand, and those of the statement, in order."""
+    """The digest of the request, and those of the statement, in order."""
     if case.envelope is None:
         return {"digest": digest(case.request.digest)}
     read = dsse.read(documents.compact(documents.tree(case.payload)))[1]

@@ -66,7 +66,7 @@ def beyond(reader):
 
 
 def no_form(value):
-    """A value that has not exactly one of the members of a rule."""
+    """A value that does not have exactly one of the members of a rule."""
     return record((BESIDE, list(manifests.RULES)), required("least", nothing))(value)
 
 

@@ -74,7 +74,7 @@ def subject(found):
 
 
 def envelope(case):
-    """The envelope and the statement in it; none of a signature over the artifact."""
+    """The envelope and the statement in it; None for a signature over the artifact."""
     if case.envelope is None:
         return {}
     _, listed, predicate, _ = dsse.read(documents.compact(documents.tree(case.payload)))

@@ -28,7 +28,7 @@ def unsigned(log, checkpoint, rows, is_shown):
 
 
 def update_explanation(witness, update, rows, count):
-    """The object of an update, which the dictionary is changed by if it is taken; so many before it were not signed."""
+    """The object of an update, which changes the dictionary if it is accepted; this many before it were not signed."""
     checkpoint, unread = read_checkpoint(update["checkpoint"])
     if unread:
         return unread

@@ -442,7 +442,7 @@ def with_intermediates(made, rows):
 
 
 def pieces(content):
-    """The elements that stand one after another."""
+    """The elements that follow one another."""
     found, at = [], 0
     while at < len(content):
         size, used = content[at + 1], at + 2

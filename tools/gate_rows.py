@@ -66,7 +66,7 @@ def case(made, *report):
 
 
 def of_one(found, *bundles, rule=RULE):
-    """A row of one artifact; what is found of each bundle stands after its place."""
+    """A row of one artifact; what is found for each bundle comes after its place."""
     decision, *each = found
     lines = ["bundle %d %s" % (place, words) for place, words in enumerate(each)]
     case(manifest(artifact(*bundles, rule=rule)), "artifact a " + decision, *lines, "admitted %d of 1" % (decision == "admit"))

@@ -59,7 +59,7 @@ def bundle_words(found):
 
 
 def returned(text):
-    """What the call `gate` of gate_cases returns, and the report alone."""
+    """What the call `gate` of gate_cases returns, and only the report."""
     try:
         read = read_manifest(text)
     except Refused as refused:

@@ -101,7 +101,7 @@ class Pairs:
 
 
 def replaced(value, way, change):
-    """The value where `change` was made of the list or object that has the last of the way, and of its key."""
+    """The value where `change` was made to the list or object that has the last step of the way, at its key."""
     key, *rest = way
     if not rest:
         return change(value, key)

@@ -37,7 +37,7 @@ def read_case(data, words=None):
 
 
 def only(names, value):
-    """An object with its members of these names alone."""
+    """An object with only its members of these names."""
     return {name: item for name, item in value.items() if name in names} if isinstance(value, dict) else value
 
 
@@ -148,7 +148,7 @@ def equal_case(one, other):
     case("equal %s %s" % (percent(one), percent(other)), "ok " + " ".join([word] * 3))
 
 
-# ---- what several groups of rows are made of
+# ---- the parts of several groups of rows
 
 HASH = "AAaa00112233445566778899aabbccddeeff00112233445566778899aabbccdd"
 OTHER = "00112233445566778899aabbccddeeff00112233445566778899aabbccddeeff"
@@ -162,7 +162,7 @@ NO_OBJECTS = ["null", "[]", "7", '"m"', "true", '["m"]', '[{"m":1}]', '[{"m":"aG
 
 
 def nested(depth, begin, end, core="[]"):
-    """The core between so many beginnings and ends: its text, and the words that stand for it."""
+    """The core between this many beginnings and ends: its text, and the words that stand for it."""
     text = begin * depth + core + end * depth
     words = "hex " + "+".join(part for part in [begin.encode().hex() + "*%d" % depth, core.encode().hex(), end.encode().hex() + "*%d" % depth] if part)
     return text, words

@@ -54,7 +54,7 @@ def constant(_):
 
 
 def text_of(text):
-    """RFC 8259 section 8.2: surrogates that are not in a pair stand for no text."""
+    """RFC 8259 section 8.2: surrogates that are not in a pair do not stand for any text."""
     if any(0xD800 <= ord(c) < 0xE000 for c in text):
         raise NotJson
 
@@ -200,7 +200,7 @@ KINDS = {
 
 
 def found(value, name):
-    """The member, none where it is absent or null."""
+    """The member, None where it is absent or null."""
     if not isinstance(value, dict):
         raise Member
     return value.get(name)

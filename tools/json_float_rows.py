@@ -34,7 +34,7 @@ def comes_again(case):
 
 
 def among_many(case):
-    """Some hundred members, of which each holds a float, and as many that replace them: all, all but one, or one twice."""
+    """Some hundred members, of which each holds a float, and as many that replace them: all, all except one, or one twice."""
     names = [str(place * 7919 % MANY) for place in range(MANY)]
     floats, whole = [f'"{name}":1.5' for name in names], [f'"{name}":1' for name in sorted(names)]
     kept = ['"k":2']

@@ -19,7 +19,7 @@ def found(tool):
 def loaded(path):
     """The rt of this path as a module, or None if it is not the kit's. It sums the sources of each crate once.
 
-    By itself rt sums a crate anew for each way by which another stands on it. There are some 15,000 ways down from the program, so
+    By itself rt sums a crate anew for each way by which another crate stands on it. There are some 15,000 ways down from the program, so
     that a command in an upper crate takes minutes before it begins. The sums are the same: a source that is saved meanwhile is newer
     than its sum, and the next command builds it."""
     path = os.path.realpath(path)

@@ -52,7 +52,7 @@ def section(title, content):
 
 
 def page(told, date, version, others):
-    """The page of a program that was told by `Help`; `others` are the pages to see also."""
+    """The page of a program that `Help` describes; `others` are the pages to see also."""
     synopsis = ".br\n".join(f"\\fB{escaped(told.name)}\\fR {words(form)}\n" for form in told.usage)
     description = "".join(map(paragraph, told.paragraphs)).removeprefix(".PP\n")
     commands = "".join(f'.SS "{escaped(row.term)}"\n' + "".join(body(row.text)).removeprefix(".PP\n") for row in told.commands)

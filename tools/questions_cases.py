@@ -4,7 +4,7 @@
     tools/questions_cases.py                  writes the examples/questions-*.expected
     tools/questions_cases.py check PROGRAM    runs the program on each request of examples/log.requests, of examples/consistency.requests, of
                                               examples/audit.requests, of examples/witness.requests, of examples/gate.requests and of the rows of `verify`, and compares its reply with this reader's. Where it lists signatures, the command has to have
-                                              the same reply with those of the accepted signatures alone that are listed, and that of
+                                              the same reply with only those of the accepted signatures that are listed, and that of
                                               the second implementation with all that are listed; where it names a link of the chain
                                               of trust, `verify` has to name it too, with and without accepted signatures. Then come
                                               requests about the limit, which gets each list back before the request's last brace, and
@@ -121,7 +121,7 @@ def witness_reply(text):
 
 
 class Asked(list):
-    """The signatures that are looked up in it, in order. Each is genuine, or none is."""
+    """The signatures that are looked up in it, in order. All of them are genuine, or none is."""
 
     def __init__(self, genuine):
         super().__init__()
@@ -144,7 +144,7 @@ def asked(case, *names, genuine=True):
 
 
 def steps_of_paths(case):
-    """Of each path from the leaf to a trust anchor, if every signature is genuine, who comes after whom: the leaf is 0 and then come the
+    """For each path from the leaf to a trust anchor, if every signature is genuine, which certificate comes after which: the leaf is 0 and then come the
     later certificates; who signed is the place among the trust anchors and then the later certificates."""
     signed, signers, found = [case.leaf, *case.later], [*case.anchors, *case.later], set()
 
@@ -386,7 +386,7 @@ def replies_without(program, text, steps, others):
 
 
 def resting(program, text, path):
-    """Of which signatures of a path `verify` refuses `issuer` where they alone are not accepted: 1, and else 0."""
+    """For each signature of a path 1 if `verify` refuses `issuer` where only this one is not accepted, and otherwise 0."""
     case = listed_case(text)
     above = [*(case.later[place] for place in path), case.anchors[0]]
     whole, *replies = replies_without(program, text, [step(y, x) for y, x in zip([case.leaf, *above], above)],

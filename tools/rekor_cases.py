@@ -1,5 +1,5 @@
 #!/usr/bin/env python3
-"""Writes the table of crates/rekor_cases: its stdin, and the stdout that is expected of it. Run by hand: tools/rekor_cases.py
+"""Writes the table of crates/rekor_cases: its stdin, and the stdout that it has to write. Run by hand: tools/rekor_cases.py
 
 The answers are this program's own, written from the checkpoint format of transparency-dev, from Go's sumdb/note for a signature line, from
 RFC 4648 for base64, RFC 6962 for a tree and Unicode's PropList.txt for white space; docs/DECISIONS.md says how this project cuts a text."""

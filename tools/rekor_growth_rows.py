@@ -12,7 +12,7 @@ from rekor_model_rows import BAD, ONE, ROOT, Refused, hex_list, read_hash, row, 
 
 
 def read_proof(root, hashes):
-    """The root, then the hashes in order: the first that is none is named."""
+    """The root, then the hashes in order: the first that is not a hash is named."""
     return read_hash(root, "RootLength"), [read_hash(text, f"HashLength({place})") for place, text in enumerate(hashes)]
 
 

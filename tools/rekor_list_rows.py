@@ -1,6 +1,6 @@
 """The rows of crates/rekor_cases on lists of three hundred, and on what a checker is asked, which tools/rekor_cases.py writes after the others.
 
-A proof lets a body give up for long lists alone, so each list of a call has a row. The answers are those of the readers of the other files."""
+A proof lets a body give up only for long lists, so each list of a call has a row. The answers are those of the readers of the other files."""
 import base64
 import hashlib
 import json

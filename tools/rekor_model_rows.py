@@ -1,6 +1,6 @@
 """The rows of crates/rekor_cases on the models of Rekor's API, which tools/rekor_cases.py writes after its own.
 
-The answers are this program's own: JSON as RFC 8259 has it, integers alone, by Python's reader; canonical JSON by RFC 8785; hexadecimal and base64
+The answers are this program's own: JSON as RFC 8259 has it, with only integers, by Python's reader; canonical JSON by RFC 8785; hexadecimal and base64
 by RFC 4648; checkpoints and audit paths as tools/rekor_cases.py reads them. The first entry is a real one of Sigstore's staging log."""
 import base64
 import itertools

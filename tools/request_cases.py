@@ -4,7 +4,7 @@
     tools/request_cases.py
 
 A request of fixture.py, as it is and with one part changed: each signature in it is genuine by the request's own rows, and each row is
-needed by one signature alone. The signatures of the leaf and of its SCT are among the cases of x509_cases.py. And what is wrong with requests, by
+needed by only one signature. The signatures of the leaf and of its SCT are among the cases of x509_cases.py. And what is wrong with requests, by
 request_fault_rows.py.
 """
 import json

@@ -1,7 +1,7 @@
 """What is wrong with a text that has to be a request of `log`, `verify`, `consistency` or `audit`: that it is too long, is not JSON, has a float, or
 the first member that breaks the table of the command, in the order of docs/REQUESTS.md.
 
-The tables are made of those of document_fault.py; values are read by the readers of log_requests.py and verify_links.py. `is_request` asks the whole
+The tables are made from those of document_fault.py; values are read by the readers of log_requests.py and verify_links.py. `is_request` asks the whole
 readers, which say nothing of members.
 """
 import audit_requests

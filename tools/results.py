@@ -4,7 +4,7 @@
     tools/results.py          ends with `N kinds, M names of explanations, 0 missing`, and with status 1 where a kind or a name is in no table
     tools/results.py --list   says for each kind and each name which program of cases shows it, and in how many lines
 
-A proof lets a body give up: any contract is met by a body that returns out of memory for one fault alone. So a line of a stored run shows each
+A proof lets a body give up: any contract is met by a body that returns out of memory for only one fault. So a line of a stored run shows each
 kind of result of each call. A kind is a variant of the call's error type with the variants of what it keeps; numbers, texts and fields do not
 count. The types are read from the sources, so that a new variant is missing here until a table shows it. `OutOfMemory` is not a kind: the runs with
 an allocation refused are about it.

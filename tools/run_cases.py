@@ -1,8 +1,8 @@
 #!/usr/bin/env python3
 """Writes the table of run_cases: runs over streams that give and take pieces, and fail at one call. Run by hand: tools/run_cases.py
 
-What comes of a run is counted here by the contract of `run`: a request is read until the source gives nothing more, its calls counted from 0;
-the reply is written when it is whole, each call handed all that is left of it; a read that fails writes nothing, and a write that fails leaves
+The result of a run is computed here by the contract of `run`: a request is read until the source gives nothing more, its calls counted from 0;
+the reply is written when it is whole, each call given all that is left of it; a read that fails writes nothing, and a write that fails leaves
 what was written before it, with status 74 both times; words that are not a command, and `demo N`, read nothing. The replies are those of
 tools/log_requests.py, tools/consistency_requests.py, tools/audit_requests.py, tools/witness_requests.py, tools/gate_requests.py,
 tools/questions_cases.py, tools/explain_cases.py and, of `demo`, tools/demo_requests.py."""
@@ -79,7 +79,7 @@ NOT_JSON = REFUSED + b'{"cause":["NotJson"],"link":"request"}\n'
 
 
 def run(words, text, source, sink, reply, status):
-    """The case of a run. A source is the size of its pieces and the call that fails; a sink has its room besides."""
+    """The case of a run. A source is the size of its pieces and the call that fails; a sink also has its room."""
     shown = urllib.parse.quote(text, safe="") or "-"
     call = f"run {words} {shown} {source[0]} {source[1]} {sink[0]} {sink[1]} {sink[2]}"
     TABLE.case(call, outcome(words, text.encode(), source, sink, reply, status))

@@ -4,7 +4,7 @@ Second readers of this folder tell an error by this text. Here it is taken apart
 import collections
 import re
 
-# A name, what stands in its parentheses, and its named fields.
+# A name, the text in its parentheses, and its named fields.
 Variant = collections.namedtuple("Variant", "name parts fields")
 TOKEN = re.compile(r'"(?:[^"\\]|\\.)*"|-?[0-9]+|[A-Za-z_][A-Za-z0-9_]*|[^\s]')
 ESCAPED = {"n": "\n", "t": "\t", "r": "\r", '"': '"', "\\": "\\"}

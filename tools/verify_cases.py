@@ -223,7 +223,7 @@ def row(name, expected, *changes):
 
 
 def whole_row(name, expected, *changes):
-    """A row with all of the request, so that nothing but its changes can be what fails."""
+    """A row with all of the request, so that only its changes can fail."""
     add(name, expected, compact(built(changes)))
 
 
@@ -268,7 +268,7 @@ def policy_words(policy):
 
 
 def call(text):
-    """The call of `verify_offline` that a request stands for."""
+    """The call of `verify_offline` for which a request stands."""
     members = verify_links.documents.tree(text.encode())
     return " ".join(["verify_offline", str(int(members["now"])), members["digest"], *policy_words(members["policy"]),
                      text_word(members["trustedRoot"]), text_word(members["bundle"]), *map(request_cases.words_of, members.get("accepted") or [])])

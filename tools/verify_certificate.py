@@ -294,7 +294,7 @@ def log_point(keys, log_id):
     return None
 
 
-# Policies: what a certificate says of who signed (Fulcio's object identifiers).
+# Policies: what a certificate says about who signed (Fulcio's object identifiers).
 
 OIDS = {"OIDCIssuer": "1", "GitHubWorkflowTrigger": "2", "GitHubWorkflowSHA": "3", "GitHubWorkflowName": "4", "GitHubWorkflowRepository": "5",
         "GitHubWorkflowRef": "6"}

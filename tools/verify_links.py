@@ -173,7 +173,7 @@ def ctfe(case):
     want(case.certificate_logs, "TrustRoot(Ctfe)")
 
 
-# material to profile: the bundle alone.
+# material to profile: only the bundle.
 
 def material(case):
     want(case.material is not None, "Bundle(VerificationMaterialMissing)")
@@ -261,7 +261,7 @@ LONGEST_PATH = 6
 
 
 def is_signed(case, child, parent):
-    """Whether the one signed the other: the name alone does not tell."""
+    """Whether the one signed the other: the name by itself does not say."""
     return parent.subject == child.issuer and ("certificate", child.algorithm, parent.spki, child.tbs, child.signature) in case.request.accepted
 
 

@@ -102,7 +102,7 @@ def indices():
     row("index: with leading zeros", "verified 2 5", bundle(PROOF + ".logIndex", "002"), bundle(PROOF + ".treeSize", "05"))
 
 
-# The log's own entries: the list that the proof is of, and others.
+# The log's own entries: the list that the proof is about, and others.
 
 def entries():
     def among(size, index=2):
@@ -237,7 +237,7 @@ def other_keys():
         foreign_certificate_log(name, spki)
 
 
-# The issuer is the first trust anchor that issued the leaf; the name alone does not tell.
+# The issuer is the first trust anchor that issued the leaf; the name by itself does not say.
 
 def chain(*anchors):
     return {"certChain": {"certificates": [{"rawBytes": base64_of(each)} for each in anchors]}}

@@ -269,7 +269,7 @@ def envelopes():
     row("envelope: a payload of no members", "envelope Bundle(DssePayloadDecode)", bundle("dsseEnvelope.payload", ABSENT))
 
 
-# body: each part that is compared, wrong once; the log is of the changed body, and the log signed for it.
+# body: each part that is compared, wrong once; the log has the changed body, and the log signed for it.
 
 def bodies():
     def changed(path, value):
@@ -412,7 +412,7 @@ def inclusions():
     row("inclusion: a longer log under the same root, signed", "verified 2 6", parts(noted=note(made.root, 6)), bundle(PROOF + ".treeSize", "6"))
 
 
-# What the table in the repository has; and what the whole table has besides, where other tables have the single reader's cases.
+# What the table in the repository has; and what else the whole table has, where other tables have the single reader's cases.
 GROUPS = [issuances, policies, subjects, bodies, proofs, checkpoint_forms]
 MORE = [materials, leaves, profiles, more_issuances, scts, identities, signatures, manies, envelopes, more_proofs, checkpoints,
         more_checkpoint_forms, notes, inclusions]

@@ -143,7 +143,7 @@ def rows():
         accepted_row(name, UNREAD, **changed)
 
 
-# The trusted root's refusals are told apart: no JSON, a float, a member; then what it has no keys for.
+# The trusted root's refusals are told apart: not JSON, a float, a member; then that for which it has no keys.
 
 def trusted_roots():
     def read(name, expected, text):

@@ -110,7 +110,7 @@ def text_of(witness):
 
 
 def bytes_of(line):
-    """The bytes of a line in base64; none where it is not exactly what is written of them."""
+    """The bytes of a line in base64; None where it is not exactly what is written for them."""
     try:
         found = base64.b64decode(line.encode(), validate=True)
     except (binascii.Error, ValueError):

@@ -74,7 +74,7 @@ def started(request):
 
 
 def read_update(update):
-    """An update whose text is a checkpoint; none where it is not."""
+    """An update whose text is a checkpoint; None where it is not."""
     try:
         (origin, size, root, *_), signatures = parts = log.rekor.read_checkpoint(update["checkpoint"])
     except log.rekor.Fault:

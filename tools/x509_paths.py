@@ -22,7 +22,7 @@ def inter(subject, issuer, under, length=None, critical=b"", first="230101000000
 
 
 class Node:
-    """A certificate of a graph, in the words of its rules: what its DER is, is told by `parts`."""
+    """A certificate of a graph, in the words of its rules: `parts` says what its DER is."""
 
     def __init__(self, parts, subject, issuer, under, length=None, usable=True):
         self.parts, self.subject, self.issuer, self.key, self.length, self.usable = parts, subject, issuer, key(under), length, usable
@@ -87,7 +87,7 @@ def questions(genuine, roots, intermediates, leaf, lists=False):
     """How many questions are asked: of the leaf and of each usable intermediate, equal ones once, the trust anchors of its issuer's
     name, up to one that signed it, and where that is not the leaf, of each usable intermediate the usable intermediates of its issuer's
     name; and then of the leaf each intermediate of its issuer's name that leads to a trust anchor, up to one that signed it. Of trust
-    anchors with one name and key the first alone. A checker that lists the keys of a signature is asked about no trust anchor, nor
+    anchors with one name and key only the first. A checker that lists the keys of a signature is asked about no trust anchor, nor
     about a certificate for which it lists none, and about none at all if that is the leaf."""
     def may(child):
         return not lists or any(der == child.der for der, _ in genuine)

@@ -64,7 +64,7 @@ def pools_of_one_name():
 
 
 def keys_asked(leaf, anchors, under=None):
-    """The keys that a checker is asked about, which accepts this one alone: each of the issuer's name once, in order, up to that one."""
+    """The keys about which a checker is asked that accepts only this one: each of the issuer's name once, in order, up to that one."""
     issuer = fields_of(leaf)["issuer"]
     found = [fields_of(anchor) for anchor in anchors]
     keys = list(dict.fromkeys(fields["spki"] for fields in found if fields["subject"] == issuer))
@@ -73,7 +73,7 @@ def keys_asked(leaf, anchors, under=None):
 
 
 def asked_case(cause, parts, anchors, under=None, time=1702446655, refusal=None):
-    """What both calls return, and which keys they ask about: none where a refusal is stated."""
+    """What both calls return, and about which keys they ask: about none where a refusal is stated."""
     leaf = fixture.certificate(parts)
     result = refusal or signer_among(leaf, anchors, b"" if under is None else under)
     keys = [] if refusal else keys_asked(leaf, anchors, under)

@@ -150,7 +150,7 @@ def rows():
             write(*line.split("|"))
 
 
-# What stands for itself.
+# What stands for itself in a row.
 
 USAGES = ["digitalSignature", "nonRepudiation", "keyEncipherment", "dataEncipherment", "keyAgreement", "keyCertSign", "cRLSign",
           "encipherOnly", "decipherOnly"]
@@ -158,7 +158,7 @@ PURPOSES = {1: "serverAuth", 2: "clientAuth", 3: "codeSigning", 4: "emailProtect
 
 
 def bits():
-    """Each bit of key usage alone (RFC 5280 section 4.2.1.3), and each purpose alone (section 4.2.1.12)."""
+    """Each bit of key usage by itself (RFC 5280 section 4.2.1.3), and each purpose by itself (section 4.2.1.12)."""
     group("each bit of key usage alone")
     for number, name in enumerate(USAGES):
         octets = number // 8 + 1

@@ -32,7 +32,7 @@ def limited():
 
 
 def compiled(text):
-    """The pattern, whose classes such as \\w have the letters of ASCII alone; what Python warns of is an error."""
+    """The pattern, whose classes such as \\w have only the letters of ASCII; what Python warns about is an error."""
     try:
         with limited(), warnings.catch_warnings():
             warnings.simplefilter("error")

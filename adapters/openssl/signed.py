@@ -118,7 +118,7 @@ def flipped(signature):
 class Signed:
     """A trusted root, a bundle and an artifact. `leaf` and `log` are kinds of keys, or a leaf is
     a signer of its own; `authority` is a kind with a hash.
-    The content is an envelope or a message. With a chain so many authorities below the root, each issued by the one
+    The content is an envelope or a message. With a chain this many authorities below the root, each issued by the one
     above, come before the certificate, and the bundle has them; all are trust anchors, or with `alone` the root is the
     only one. With a rival the trusted root has another authority of the issuer's name before it. Of the `spoiled`
     signature, a title of `LINKS` or `authority`, the last bit is flipped, or a stranger's key of the same kind made it.

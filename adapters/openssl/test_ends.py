@@ -50,7 +50,7 @@ def check_programs(results, program):
 
 
 def check_signals(results, program):
-    """Where the caller ignores a signal, among them the one by which a child's status is had."""
+    """Where the caller ignores a signal, among them the one on which a child's status depends."""
     with tempfile.TemporaryDirectory() as folder:
         signed.write(folder, Signed())
         for ignored in "CHLD", "PIPE", "CHLD HUP INT QUIT PIPE TERM USR1 XFSZ":

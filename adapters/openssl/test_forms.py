@@ -13,7 +13,7 @@ RULES = {f"--certificate-github-workflow-{rule}": text for rule, text in WORKFLO
 
 
 def check_policies(results, program):
-    """Each rule by its word, alone and all together; with another text it does not hold."""
+    """Each rule by its word, one by one and all together; with another text it does not hold."""
     with tempfile.TemporaryDirectory() as folder:
         signed.write(folder, Signed())
         short = words_of(folder, program)
@@ -155,7 +155,7 @@ def check_several(results, program):
 
 
 def check_printed(results, program, words, folder):
-    """Of several artifacts the requests, a line each, and beside them the replies; none of one without a reply."""
+    """The requests of several artifacts, a line each, and beside them the replies; there is none for an artifact without a reply."""
     status, requests, lines = run(words, cwd=folder)
     said = [line for line in lines.splitlines() if not line.startswith("sigverify-bundle: c d: ")]
     results.compare("the replies beside requests", (status, said, lines.count("\n")),
@@ -196,7 +196,7 @@ def check_protocol_misused(results, program):
 
 
 def check_beside(results, program):
-    """The bundle beside an artifact is a regular file: for what a stranger put there nobody waits."""
+    """The bundle beside an artifact is a regular file: nobody waits for what a stranger put there."""
     with tempfile.TemporaryDirectory() as folder:
         several(folder, ["a"])
         words, beside = [*words_of(folder, program, bundle=None)[:-1], "a"], os.path.join(folder, "a.sigstore.json")

@@ -124,7 +124,7 @@ def check_points(results, _):
         results.compare("a genuine row of Ed25519", is_genuine(row_of), True)
 
 
-# RSA, RFC 8017: signatures by the exponents 1 and powers of two, of which roots are found by who has the factors.
+# RSA, RFC 8017: signatures by the exponents 1 and powers of two, whose roots can be found with the factors.
 
 def rsa_spki(modulus, exponent):
     def integer(number):
