@@ -3,8 +3,8 @@
 
     tools/gate_cases.py
 
-What comes of a text is said by the second reader of tools/gate_manifests.py. That a text is not a manifest for this cause and no other is also stated
-by hand, row by row, except for the random ones. The rows of verdicts are in tools/gate_rows.py.
+The second reader of tools/gate_manifests.py says what the result of a text is. It is also stated by hand, row by row, except for the random ones, that a
+text is not a manifest for this cause and no other. The rows of verdicts are in tools/gate_rows.py.
 """
 import random
 import sys

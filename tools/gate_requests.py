@@ -1,9 +1,9 @@
 #!/usr/bin/env python3
 """Manifests that `gate` is given and the replies to them, by a reader of its own.
 
-    tools/gate_requests.py                  writes examples/gate.requests, manifests, one a line, and below each the reply and the status; and the
+    tools/gate_requests.py                  writes examples/gate.requests, one manifest on a line, and below each the reply and the status; and the
                                             examples gate*.json with their replies
-    tools/gate_requests.py check PROGRAM    runs the program on manifests by chance, and on the longest lists; and compares its replies
+    tools/gate_requests.py check PROGRAM    runs the program on random manifests, and on the longest lists; and compares its replies
 
 The replies are this program's own: a manifest is read as tools/gate_manifests.py does, and its artifacts are judged as tools/gate_verdicts.py does."""
 import itertools

@@ -2,14 +2,14 @@
 """A walk of hostile requests of `verify`: the fixture's, over an envelope, over a message, and with two intermediates, each changed in one place.
 
     tools/hostile.py all [PROGRAM]       every request of the walk, some 100,000
-    tools/hostile.py [PROGRAM]           one request of each forty
+    tools/hostile.py [PROGRAM]           one request of every forty
     tools/hostile.py count               how many requests each part of the walk has
 
-Changed are each byte of the bundle and of the trusted root, in four ways; each member of both, which is left out, doubled, made null, and made each
-other kind of value; each base64 text, which is one character short; each byte, each length and each element of the certificates and of the SCT, with
-all lengths about it made right again or left as they are. Where a member, a text of base64 or a certificate is changed, the request is tried twice:
-with the signatures that the fixture accepts; and `questions verify` has to list what the changed request asks for, or to name the link that fails
-whatever is accepted, and `verify` is tried with all that is listed.
+It changes each byte of the bundle and of the trusted root, in four ways. It leaves out each member of both, doubles it, makes it null, and makes it each
+other kind of value. It makes each base64 text one character short. It changes each byte, each length and each element of the certificates and of the
+SCT, with all lengths about it made right again or left as they are. Where a member, a text of base64 or a certificate is changed, the request is tried
+twice: first with the signatures that the fixture accepts; then `questions verify` has to list what the changed request asks for, or to name the link
+that fails whatever is accepted, and `verify` is tried with all that is listed.
 
 A second implementation, tools/verify_links.py, says what the reply is. The program has to write that, with its status 0, 1 or 2, in at most 100
 milliseconds of a processor and with 50 megabytes of addresses. The status of this tool is 0 if it does so for each request."""

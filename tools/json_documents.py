@@ -1,6 +1,6 @@
 """JSON documents, read and written for the programs of tools/: what a text is as a tree, its compact and canonical texts, and the kinds of members.
 
-What is JSON is said by RFC 8259 and by docs/DECISIONS.md: Python's `json` reads it, with hooks for numbers, for members of one name, for
+RFC 8259 and docs/DECISIONS.md say what is JSON: Python's `json` reads it, with hooks for numbers, for members of one name, for
 surrogates and for how deep lists and objects nest. Compact and canonical texts (RFC 8785) are written here; base64 and hexadecimal digits are
 those of RFC 4648. None of the project's code runs.
 """

@@ -1,10 +1,10 @@
 #!/usr/bin/env python3
-"""Writes examples/log.requests: requests of `log`, one a line, and below each the reply and the status; and examples/log-entries.json, a request
+"""Writes examples/log.requests: requests of `log`, one on each line, and below each the reply and the status; and examples/log-entries.json, a request
 with the log's entries, with its reply. Run by hand: tools/log_requests.py
 
 The replies are this program's own: it reads a request by the member tables of docs/REQUESTS.md and docs/DECISIONS.md, a checkpoint by
-tools/rekor_cases.py, follows an audit path by RFC 6962, and hashes a list of entries from its leaves up. That no list has another entry
-than the proof's under the same root it takes for granted."""
+tools/rekor_cases.py, follows an audit path by RFC 6962, and hashes a list of entries from its leaves up. It takes for granted that no
+list has another entry than the proof's under the same root."""
 import base64
 import hashlib
 import importlib.util

@@ -9,14 +9,13 @@
                                               of trust, `verify` has to name it too, with and without accepted signatures. Then come
                                               requests about the limit, which gets each list back before the request's last brace, and
                                               those with the longest chains, whose lists have the number of rows that is stated by hand, and
-                                              those of which it is stated by hand on which signatures of a path `issuer` rests
+                                              those for which it is stated by hand on which signatures of a path `issuer` rests
 
-The reader of a request of `log` is that of tools/log_requests.py, that of one of `consistency` that of
-tools/consistency_requests.py, that of one of `audit` that of tools/audit_requests.py, that of one of `witness` that of
-tools/witness_requests.py, and that of a manifest that of tools/gate_requests.py. That of a request of `verify`, as of a bundle of a manifest, asks
-the links of tools/verify_links.py: those before `issuer` for the first that fails, and the others for the signatures that they
-look up, under one issuer at a time. Which certificates come after one another in a path, if every signature is genuine, it finds
-out by walking all paths.
+The readers of requests of `log`, `consistency`, `audit` and `witness`, and of manifests, are those of tools/log_requests.py,
+tools/consistency_requests.py, tools/audit_requests.py, tools/witness_requests.py and tools/gate_requests.py. The reader of a
+request of `verify`, and of a bundle of a manifest, asks the links of tools/verify_links.py: those before `issuer` for the first
+that fails, and the others for the signatures that they look up, under one issuer at a time. It walks all paths to find out which
+certificates come after one another in a path, if every signature is genuine.
 """
 import base64
 import json

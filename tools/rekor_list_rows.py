@@ -1,4 +1,4 @@
-"""The rows of crates/rekor_cases on lists of three hundred, and on what a checker is asked, which tools/rekor_cases.py writes after the others.
+"""The rows of crates/rekor_cases on lists of three hundred, and on what a checker is asked about, which tools/rekor_cases.py writes after the others.
 
 A proof lets a body give up only for long lists, so each list of a call has a row. The answers are those of the readers of the other files."""
 import base64

@@ -3,9 +3,9 @@
 
     tools/request_cases.py
 
-A request of fixture.py, as it is and with one part changed: each signature in it is genuine by the request's own rows, and each row is
-needed by only one signature. The signatures of the leaf and of its SCT are among the cases of x509_cases.py. And what is wrong with requests, by
-request_fault_rows.py.
+The cases are a request of fixture.py, unchanged and with one part changed: each signature in it is genuine by the request's own rows, and only
+one signature needs each row. The signatures of the leaf and of its SCT are among the cases of x509_cases.py. The table also has what is wrong
+with requests, by request_fault_rows.py.
 """
 import json
 from urllib.parse import quote

@@ -2,7 +2,7 @@
 the first member that breaks the table of the command, in the order of docs/REQUESTS.md.
 
 The tables are made from those of document_fault.py; values are read by the readers of log_requests.py and verify_links.py. `is_request` asks the whole
-readers, which say nothing of members.
+readers, which say nothing about members.
 """
 import audit_requests
 import bundle_reader

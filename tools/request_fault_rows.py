@@ -1,4 +1,4 @@
-"""What is wrong with requests of `log`, `verify`, `consistency` and `audit`: rows of request_cases.py, of which request_fault.py says the result."""
+"""What is wrong with requests of `log`, `verify`, `consistency` and `audit`: rows of request_cases.py, whose result request_fault.py says."""
 import json
 
 import request_fault

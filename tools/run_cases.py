@@ -5,7 +5,7 @@ The result of a run is computed here by the contract of `run`: a request is read
 the reply is written when it is whole, each call given all that is left of it; a read that fails writes nothing, and a write that fails leaves
 what was written before it, with status 74 both times; words that are not a command, and `demo N`, read nothing. The replies are those of
 tools/log_requests.py, tools/consistency_requests.py, tools/audit_requests.py, tools/witness_requests.py, tools/gate_requests.py,
-tools/questions_cases.py, tools/explain_cases.py and, of `demo`, tools/demo_requests.py."""
+tools/questions_cases.py, tools/explain_cases.py and, for `demo`, tools/demo_requests.py."""
 import hashlib
 import json
 import sys
