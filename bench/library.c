@@ -1,6 +1,6 @@
 /* Calls the library again and again, for bench/run: library FILE COMMAND STATUS COUNT THREADS
 
-   Each of so many threads hands the request in FILE to the command of this number COUNT times; each call has to have this
+   Each of this many threads gives the request in FILE to the command of this number COUNT times; each call has to have this
    status. Written are the nanoseconds that passed, and those of all processors together. */
 #define _GNU_SOURCE
 #include "sigverify.h"

@@ -74,7 +74,7 @@ func Reply(command Command, request []byte) (Status, []byte, error) {
 	}
 }
 
-// A Row is a signature that a reply can rest on: docs/REQUESTS.md, "accepted".
+// A Row is a signature on which a reply can rest: docs/REQUESTS.md, "accepted".
 type Row struct {
 	Operation string `json:"operation"`
 	Scheme    string `json:"scheme"`

@@ -45,7 +45,7 @@ pub enum Status {
 #[derive(Clone, Copy, Debug, PartialEq, Eq)]
 pub enum NoReply {
     OutOfMemory,
-    /// The library returned a status that is not for this crate.
+    /// The library returned a status that this crate does not know.
     Other(u8),
 }
 
@@ -78,7 +78,7 @@ extern "C" {
     fn sigverify_version() -> u32;
 }
 
-/// The library's version: 2^16 times its first number, and 2^8 times the second, and the third.
+/// The library's version: 2^16 times its first number, plus 2^8 times the second, plus the third.
 pub fn version() -> u32 {
     // SAFETY: it takes nothing.
     unsafe { sigverify_version() }

@@ -1,12 +1,12 @@
-// Hands the consistency proofs of base_cases to Go's golang.org/x/mod/sumdb/tlog, and compares what it says with the table.
+// Gives the consistency proofs of base_cases to Go's golang.org/x/mod/sumdb/tlog, and compares what it says with the table.
 //
 // Run by hand, with Debian's golang-go and golang-golang-x-mod-dev:
 //
 //	GO111MODULE=off GOPATH=/usr/share/gocode go run bench/peers/tlog/main.go crates/base_cases >bench/peers/tlog/output
 //
-// Of each row `sweep OLD NEW`, ProveTree has to make the proof whose hash the table has, and CheckTree has to accept it and
-// those of its changes that have the letter k, and no other. Of each row `verify_consistency`, CheckTree has to accept where
-// the table says ok, and nowhere else; rows of the empty tree, and of sizes above 2^63 - 1, are none of tlog's.
+// For each row `sweep OLD NEW`, ProveTree has to make the proof whose hash the table has, and CheckTree has to accept it and
+// those of its changes that have the letter k, and no other. For each row `verify_consistency`, CheckTree has to accept where
+// the table says ok, and nowhere else; tlog has no rows of the empty tree, and of sizes above 2^63 - 1.
 package main
 
 import (
@@ -39,7 +39,7 @@ func lines(name string) []string {
 	return found
 }
 
-// stored returns the hashes that tlog stores of the log of the entries `entry 0`, `entry 1` and so on.
+// stored returns the hashes that tlog stores for the log of the entries `entry 0`, `entry 1` and so on.
 func stored(count int64) tlog.HashReaderFunc {
 	var all []tlog.Hash
 	reader := tlog.HashReaderFunc(func(indexes []int64) ([]tlog.Hash, error) {
@@ -103,7 +103,7 @@ func letters(proof tlog.TreeProof, old, new int64, oldRoot, newRoot tlog.Hash) s
 	return found.String()
 }
 
-// accepted keeps the letters k alone.
+// accepted keeps only the letters k.
 func accepted(letters string) string {
 	return strings.Map(func(letter rune) rune {
 		if letter == 'k' {

@@ -1,5 +1,5 @@
-// Checks that a leaf is in a tree of 2^62 leaves, by Go's golang.org/x/mod/sumdb/tlog, so many times; or makes the
-// hashes of as many such checks alone. Prints how often the leaf was accepted, or the hashes led to one value.
+// Checks that a leaf is in a tree of 2^62 leaves, by Go's golang.org/x/mod/sumdb/tlog, this many times; or makes only
+// the hashes of as many such checks. Prints how often the leaf was accepted, or the hashes led to one value.
 //
 // bench/run builds it with Debian's golang-go and golang-golang-x-mod-dev, and calls it by `walk N` and `hashes N`.
 // 2^62 is the largest size of tlog's: above it, maxpow2 does not end, since 1<<63 is not an int64 above zero. So a path has
@@ -29,7 +29,7 @@ func madeUp() (leaf tlog.Hash, proof tlog.RecordProof) {
 	return tlog.RecordHash([]byte("leaf")), proof
 }
 
-// root returns the root that the path leads to.
+// root returns the root to which the path leads.
 func root(leaf tlog.Hash, proof tlog.RecordProof) tlog.Hash {
 	for place, hash := range proof {
 		if index>>place&1 == 0 {
@@ -53,7 +53,7 @@ func walked(times int) (accepted int) {
 	return accepted
 }
 
-// top returns the hash that the path's hashes lead to, as though each were that of a right child.
+// top returns the hash to which the path's hashes lead, as though each were that of a right child.
 func top(leaf tlog.Hash, proof tlog.RecordProof) tlog.Hash {
 	for _, hash := range proof {
 		leaf = tlog.NodeHash(leaf, hash)

@@ -1,4 +1,4 @@
-//! `webpki-read TIMES < CERTIFICATE` reads a certificate (DER) so often, and prints how often it was one.
+//! `webpki-read TIMES < CERTIFICATE` reads a certificate (DER) this many times, and prints how often it was one.
 
 use std::error::Error;
 use std::hint::black_box;

@@ -22,7 +22,7 @@ pub struct Checkpoint {
 }
 
 impl Checkpoint {
-    /// Reads a checkpoint: a note, an empty line, and signatures between empty lines. `None` where the text is none.
+    /// Reads a checkpoint: a note, an empty line, and signatures between empty lines. `None` where the text is not a checkpoint.
     pub fn read(text: &str) -> Option<Checkpoint> {
         let (note, signatures) = text.trim_matches('"').split_once("\n\n")?;
         let signatures = signatures

@@ -18,7 +18,7 @@ pub struct Hex32(pub [u8; 32]);
 /// An integer, as a number or as a text of digits.
 pub struct Integer(i128);
 
-/// A value that is looked at for floats alone.
+/// A value that is only searched for floats.
 pub struct Ignored;
 
 /// The bytes of a base64 text of the standard alphabet, padded and canonical.

@@ -1,7 +1,7 @@
 //! Whether an entry is in a transparency log, and whether the log vouches for it: five links, of which the first that fails
 //! is the reply.
 //!
-//! It differs from sigverify in one place: of a member that is given twice sigverify looks at the last value alone, while
+//! It differs from sigverify in one place: if a member is given twice, sigverify looks only at the last value, while
 //! here each value has to be of the member's kind, and none may hold a float.
 
 mod checkpoint;
@@ -17,7 +17,7 @@ use std::fmt;
 /// A request has at most this many bytes.
 pub const LIMIT: usize = 1 << 24;
 
-/// What is replied to a request.
+/// The reply to a request.
 #[derive(Debug, PartialEq, Eq)]
 pub enum Reply {
     Logged { index: i64, size: u64 },

@@ -88,7 +88,7 @@ fn required<T, E: Error>(value: Option<T>, name: &'static str) -> Result<T, E> {
     value.ok_or_else(|| E::missing_field(name))
 }
 
-/// What a name says, of a text that has to be one.
+/// What a name says, from a text that has to be a name.
 fn named<T, E: Error>(text: Text, read: impl Fn(&str) -> Option<T>) -> Result<T, E> {
     read(&text.0).ok_or_else(|| E::custom(format_args!("no such name: {}", text.0)))
 }
@@ -152,7 +152,7 @@ impl<'de> Visitor<'de> for RequestVisitor {
                 RequestMember::Scheme => scheme = members.next_value()?,
                 RequestMember::Key => key = members.next_value()?,
                 RequestMember::Accepted => accepted = members.next_value()?,
-                // Reserved: null alone.
+                // Reserved: only null.
                 RequestMember::Entries => members.next_value::<()>()?,
                 RequestMember::Other => {
                     members.next_value::<Ignored>()?;
