@@ -1,4 +1,4 @@
-"""The worst requests that are known of each command, for a check of what they cost. Each is a function from a size in bytes to a request of nearly
+"""The most costly known requests of each command, for a check of what they cost. Each is a function from a size in bytes to a request of nearly
 that size, and to what the program writes: all of it, or the lines before an explanation."""
 import collections
 
@@ -41,7 +41,7 @@ def beside_list(make, said):
 
 
 def listed_alike(make, reply):
-    """The same of the list that a second reader makes of a small one."""
+    """The same for the list that a second reader makes from a small one."""
     return beside_list(make, reply(make(2).decode())[0])
 
 
@@ -108,7 +108,7 @@ OF_MEMORY = {"accepted keys between those of trust anchors"}
 
 
 def cases():
-    """All requests of this list but those that are left out."""
+    """All requests of this list except those that are left out."""
     return (case for case in every() if case.title not in LEFT_OUT.get(case.command, ()))
 
 

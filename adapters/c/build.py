@@ -4,8 +4,8 @@ kit's archive for the heap.
 
     adapters/c/build.py
 
-The static library is proved and built first, where a source is newer than it; so are the crates below it, where neither
-`rt ci` nor `rt lib` built them since. It needs the kit's bin/ on PATH, and a C compiler, cc."""
+The static library is proved and built first, where a source is newer than it; so are the crates below it, if neither
+`rt ci` nor `rt lib` has built them since. It needs the kit's bin/ on PATH, and a C compiler, cc."""
 import os
 import pathlib
 import subprocess

@@ -1,9 +1,9 @@
 """What the JSON of `sigverify explain` says to a person: at most ten lines of plain English.
 
 No verdict rests on these words, and no other file of the adapters words that JSON. WORDS has the sentence for each cause;
-DETAILS and VERIFIED what follows it, and what is said where every link holds. The members of the JSON are in braces,
+DETAILS and VERIFIED have what follows it, and what is said where every link holds. The members of the JSON are in braces,
 as docs/LINKS.md has them. A text that somebody else wrote, such as a name of a certificate, is in a line as it is
-if it has neither blanks nor quotes, and else between quotes, so that it cannot pass for words of the sentence.
+if it has neither blanks nor quotes, and otherwise between quotes, so that it cannot pass for words of the sentence.
 """
 import json
 import re

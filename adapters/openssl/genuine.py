@@ -1,8 +1,8 @@
-"""Which signatures of a list of `sigverify questions` are genuine: OpenSSL says it, by Python's package cryptography.
+"""Which signatures of a list of `sigverify questions` are genuine: OpenSSL says so, by Python's package cryptography.
 
-`is_genuine` is what a caller of this module has to trust. It is true of a row only if the library verified the row's
-signature over the row's message, under the row's key, in one of the ways below. It is false of a key under which
-anybody can sign: RSA of few bits or with an exponent that RFC 8017 does not allow, and a point of small order; and of an
+`is_genuine` is what a caller of this module has to trust. It is true for a row only if the library verified the row's
+signature over the row's message, under the row's key, in one of the ways below. It is false for a key under which
+anybody can sign: RSA of few bits or with an exponent that RFC 8017 does not allow, and a point of small order; and for an
 RSA key whose exponent is so long that each signature would take milliseconds.
 """
 import base64
@@ -12,8 +12,8 @@ import sys
 
 
 def unloaded(error):
-    """What is said where the package cannot be loaded: it is not installed, it is an older one, or, as without memory, its
-    files cannot be read."""
+    """What is said where the package cannot be loaded: it is not installed, it is an older one, or its files
+    cannot be read, for example without memory."""
     said = f"Python's package cryptography cannot be loaded: {error}"
     if isinstance(error, ModuleNotFoundError):
         return f"{said}; apt-get install python3-cryptography, of version 38 or later"
@@ -139,7 +139,7 @@ def point_key(point):
 
 def is_signed(way, key, message, signature, is_digest=False):
     """Whether the library verifies the signature; it raises InvalidSignature where it does not. A digest is the
-    artifact's SHA-256, which an elliptic curve of any size signs as it is; Ed25519 signs none."""
+    artifact's SHA-256, which an elliptic curve of any size signs as it is; Ed25519 does not sign a digest."""
     if kind_of(key) not in way.kinds or is_digest and way.hash is None:
         return False
     chosen = Prehashed(SHA256()) if is_digest else way.hash
@@ -153,7 +153,7 @@ def is_signed(way, key, message, signature, is_digest=False):
 
 
 def is_genuine(row):
-    """Whether the library verified the row's signature, in one of the ways above. What it cannot read is not."""
+    """Whether the library verified the row's signature, in one of the ways above. What it cannot read is not genuine."""
     operation, scheme = row["operation"], row.get("scheme")
     key, message, signature = [base64.b64decode(row[name], validate=True) for name in ("key", "message", "signature")]
     try:

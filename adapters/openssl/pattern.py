@@ -1,7 +1,7 @@
 """--certificate-identity-regexp: whether a name of the signer matches a pattern as a whole, by Python's re.
 
 This match is the adapter's own, and no proof is about it. The names are those that `explain verify` shows of a bundle that
-verified under the other rules. Those count that the rule `identity` compares: an email, a URI, or Fulcio's other name. A
+verified under the other rules. Those count that the rule `identity` compares: an email, a URI, or Fulcio's otherName. A
 name that is cut never matches. The pattern is the operator's own: for one that takes too long there is no reply.
 """
 import contextlib

@@ -1,10 +1,10 @@
 #!/usr/bin/python3
 """Bundles that are really signed: authority, Certificate Transparency log, log and signer are all made here.
 
-    signed.py FOLDER    writes an artifact, a bundle of it and the trusted root that it verifies under, with new keys
+    signed.py FOLDER    writes an artifact, a bundle of it and the trusted root under which it is verified, with new keys
 
 The form of each part is tools/fixture.py's; keys and signatures are the package cryptography's. Each request knows
-the rows that a checker has to accept. One of its signatures can be spoiled: what is made of it is then made of the
+the rows that a checker has to accept. One of its signatures can be spoiled: what is made from it is then made from the
 spoiled one, so that the chain fails at this signature and nowhere else.
 """
 import functools
@@ -261,7 +261,7 @@ class Signed:
                 "ctlogs": [log(self.ct)]}
 
     def accepted(self, missing=()):
-        """The rows of all signatures but those with these titles, in the order in which the links ask for them: once for
+        """The rows of all signatures except those with these titles, in the order in which the links ask for them: once for
         each certificate that has the issuer's key, as trust anchor and in the bundle."""
         def times(place):
             return [*self.trusted, *self.further].count(self.anchors[place])

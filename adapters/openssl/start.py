@@ -1,8 +1,8 @@
 """How an adapter starts and ends: isolated, with three standard streams, and at each end without a reply with status 3.
 
-Python by itself may end with 1 or 2 before a line of its program runs, as without memory, and at any time by a signal. So
-an adapter's first line runs a shell, and the shell runs Python: it makes 0, 1 and 2 of Python's statuses 40, 41 and 42,
-and 3 of every other end.
+Python by itself may end with 1 or 2 before a line of its program runs, for example without memory, and at any time by a
+signal. So an adapter's first line runs a shell, and the shell runs Python: it makes 0, 1 and 2 from Python's statuses 40,
+41 and 42, and 3 from every other end.
 
 Nothing here is found by a search: `run` loads the modules beside this file, wherever a link to the adapter is.
 """
@@ -72,7 +72,7 @@ def is_abandoned():
 
 
 def run(adapter, modules, words):
-    """Ends with the reply's status, which `main` of the last module returns once the reply is written; and else with 3,
+    """Ends with the reply's status, which `main` of the last module returns once the reply is written; otherwise with 3,
     whatever was raised, here too."""
     status = NO_REPLY
     try:

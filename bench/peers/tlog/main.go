@@ -6,7 +6,7 @@
 //
 // For each row `sweep OLD NEW`, ProveTree has to make the proof whose hash the table has, and CheckTree has to accept it and
 // those of its changes that have the letter k, and no other. For each row `verify_consistency`, CheckTree has to accept where
-// the table says ok, and nowhere else; tlog has no rows of the empty tree, and of sizes above 2^63 - 1.
+// the table says ok, and nowhere else; tlog has no answer to rows of the empty tree, and of sizes above 2^63 - 1.
 package main
 
 import (
