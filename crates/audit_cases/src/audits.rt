@@ -32,7 +32,7 @@ pub(crate) fn audited(arguments: &mut Arguments<'_>, answer: &mut Answer) {
 }
 
 /// `list KEY HEADS WATCHES ENTRIES ROWS`: what the list is beside the heads and watches, if their audit is Ok; and if
-/// it is the last head's, what the extractors return of the heads and watches, and of the heads alone.
+/// it is the last head's, what the extractors return for the heads and watches, and for only the heads.
 pub(crate) fn listed(arguments: &mut Arguments<'_>, answer: &mut Answer) {
     let key = key(arguments, answer);
     let heads = heads(arguments, answer);

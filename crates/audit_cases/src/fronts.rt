@@ -8,7 +8,7 @@ use sig_cases::{Answer, Arguments};
 use sig_merkle::uncounted::roots_of_fronts;
 use std::alloc::Global;
 
-/// `fronts MANY COUNT .. ENTRIES`: for each of so many counts, of which none is below the one before it, the root of the
+/// `fronts MANY COUNT .. ENTRIES`: for each of MANY counts, none of which is below the one before it, the root of the
 /// first entries.
 pub(crate) fn roots(arguments: &mut Arguments<'_>, answer: &mut Answer) {
     let counts = counts(arguments, answer);

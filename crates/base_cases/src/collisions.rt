@@ -108,7 +108,7 @@ fn push_lists(
     letters.push_str(beside(alloc, answer, front, new.saturating_sub(1), u64::MAX))
 }
 
-/// The letter for a front beside so many entries, of which one is changed.
+/// The letter for a front beside this number of entries, one of which is changed.
 fn beside(
     alloc: Global,
     answer: &mut Answer,

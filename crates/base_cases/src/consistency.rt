@@ -44,7 +44,7 @@ pub(crate) fn sweep(arguments: &mut Arguments<'_>, answer: &mut Answer) {
     }
 }
 
-/// The next argument as so many entries.
+/// The next argument as a number of made entries.
 fn numbered(arguments: &mut Arguments<'_>, answer: &mut Answer) -> Entries {
     let mut entries = Entries::new(arguments.alloc());
     for number in 0..arguments.natural() {
@@ -100,7 +100,7 @@ impl Trees {
     }
 }
 
-/// Adds the letters of the proof between so many of the entries and all.
+/// Adds the letters of the proof between this number of first entries and all.
 fn sweep_of(alloc: Global, answer: &mut Answer, entries: &Entries, old: usize)
     requires some { 0 < old }
     requires within { old ≤ length entries.now }

@@ -30,7 +30,7 @@ pub(crate) fn children(arguments: &mut Arguments<'_>, answer: &mut Answer) {
     answer.hex(&hash_children(&left, &right));
 }
 
-/// `root_of COUNT ENTRY,..`: the root of the tree of so many of the entries.
+/// `root_of COUNT ENTRY,..`: the root of the tree of the first COUNT entries.
 pub(crate) fn root(arguments: &mut Arguments<'_>, answer: &mut Answer) {
     let count = arguments.natural() as usize;
     let entries = arguments.entries();

@@ -25,7 +25,7 @@ pub(crate) fn decomposed(arguments: &mut Arguments<'_>, answer: &mut Answer) {
     answer.value(&border);
 }
 
-/// `both_ways SIZE FIRST COUNT`: the digests of the roots of made-up paths for so many indices of a tree of this size.
+/// `both_ways SIZE FIRST COUNT`: the digests of the roots of made-up paths for COUNT indices of a tree of this size.
 pub(crate) fn both_ways(arguments: &mut Arguments<'_>, answer: &mut Answer) {
     let sweep = Sweep::read(arguments);
     let mut roots = Roots::new(arguments.alloc());
@@ -122,8 +122,8 @@ fn push_path<L: Ledger>(
     roots.recursed.extend_from_slice(&root)
 }
 
-/// `both_growths SIZE FIRST COUNT`: the digest of the roots of made-up consistency proofs from so many older trees to
-/// a tree of this size.
+/// `both_growths SIZE FIRST COUNT`: the digest of the roots of made-up consistency proofs from COUNT older trees to a
+/// tree of this size.
 pub(crate) fn both_growths(arguments: &mut Arguments<'_>, answer: &mut Answer) {
     let sweep = Sweep::read(arguments);
     let mut roots = Vec::new(arguments.alloc());

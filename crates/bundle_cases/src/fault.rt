@@ -5,7 +5,7 @@ use sig_cases::{Answer, Arguments};
 use sig_document_fault::{bundle_fault, root_fault};
 use sig_table::DocumentFault;
 
-/// `bundle_fault TEXT`: `ok` if the text is a bundle, or what is wrong with it: of a member the cause and the path.
+/// `bundle_fault TEXT`: `ok` if the text is a bundle, or what is wrong with it: for a member the cause and the path.
 pub(crate) fn bundle(arguments: &mut Arguments<'_>, answer: &mut Answer) {
     let text = arguments.rest();
     told(answer, bundle_fault(arguments.alloc(), text.as_bytes()));

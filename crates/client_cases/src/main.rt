@@ -2,7 +2,7 @@
 //! and what it signed. `stdin` lists calls, and `stdout` what they return.
 //!
 //! Their origin: `tools/client_cases.py`, a program in another language that reads tokens by RFC 7515 and RFC 7519, and
-//! log entries, bundles and trusted roots by the tables of their formats alone.
+//! log entries, bundles and trusted roots only by the tables of their formats.
 #![tactic(auto)]
 
 mod config;

@@ -96,7 +96,7 @@ fn add_converted(answer: &mut Answer, alloc: Global, entry: &LogEntry) {
     }
 }
 
-/// `ok`, and a bundle of this entry alone.
+/// `ok`, and a bundle of only this entry.
 fn add_entry(answer: &mut Answer, alloc: Global, entry: TransparencyLogEntry) {
     let mut tlog_entries = LogEntries::new(alloc);
     match tlog_entries.push(entry) {
@@ -113,7 +113,7 @@ fn add_entry(answer: &mut Answer, alloc: Global, entry: TransparencyLogEntry) {
     }
 }
 
-/// The bundle of these entries alone.
+/// The bundle of only these entries.
 fn of_entries(alloc: Global, tlog_entries: LogEntries) -> Bundle {
     Bundle {
         media_type: Text::from(String::new(alloc)),

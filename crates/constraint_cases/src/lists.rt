@@ -34,7 +34,7 @@ pub(crate) fn verify(arguments: &mut Arguments<'_>, answer: &mut Answer) {
     drop(layers);
 }
 
-/// The layers with the signatures of a list, of which `-` is the empty one. `+` before a number is so many of `x`.
+/// The layers with the signatures of a list; `-` is the empty one. `+` before a number N is N times `x`.
 fn layers(arguments: &mut Arguments<'_>, answer: &mut Answer) -> Vec<SignatureLayer> {
     let alloc = arguments.alloc();
     let mut layers = Vec::new(alloc);

@@ -1,4 +1,4 @@
-//! Constraints of this program, which the calls of the library know through their traits alone.
+//! Constraints of this program, which the library knows only through their traits.
 
 ghost use Rattle.constraint_cases.specs.Own.{own_gives, own_holds};
 

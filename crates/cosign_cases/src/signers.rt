@@ -1,4 +1,4 @@
-//! Who signed, by the word of a certificate.
+//! The signers that certificates name.
 
 use sig_base::Text;
 use sig_cases::{Answer, Arguments};
@@ -26,7 +26,7 @@ pub(crate) fn subject(arguments: &mut Arguments<'_>, answer: &mut Answer) {
     }
 }
 
-/// `signer DER ANCHOR,.. INTERMEDIATE,.. TIME NOW ROWS`: who signed, by the word of the certificate.
+/// `signer DER ANCHOR,.. INTERMEDIATE,.. TIME NOW ROWS`: the signer that the certificate names.
 pub(crate) fn signer(arguments: &mut Arguments<'_>, answer: &mut Answer) {
     let alloc = arguments.alloc();
     let der = arguments.hex();

@@ -1,5 +1,5 @@
 //! Cases of sig_der. The table is made by tools/der_cases.py, a reader and a writer of DER of its own beside Python's
-//! calendar, from X.690 and RFC 3339 alone, and from a leaf and its issuer of Sigstore's public instance and the key
+//! calendar, only from X.690 and RFC 3339, and from a leaf and its issuer of Sigstore's public instance and the key
 //! of a public log.
 #![tactic(auto)]
 

@@ -56,7 +56,7 @@ pub(crate) fn sha512(arguments: &mut Arguments<'_>, answer: &mut Answer) {
     add_digest(arguments.alloc(), answer, &digest);
 }
 
-/// `equal_digests BYTES BYTES`: whether two digests of so many bytes are equal.
+/// `equal_digests BYTES BYTES`: whether two digests of these bytes are equal.
 pub(crate) fn equal_digests(arguments: &mut Arguments<'_>, answer: &mut Answer) {
     let one = digest_of(arguments.hex().as_slice());
     let other = digest_of(arguments.hex().as_slice());
@@ -67,7 +67,7 @@ pub(crate) fn equal_digests(arguments: &mut Arguments<'_>, answer: &mut Answer) 
     answer.value(&laws::equal_digests(&one, &other));
 }
 
-/// A digest of its bytes; none where they are neither 32 nor 64.
+/// A digest of its bytes; `None` if they are neither 32 nor 64.
 fn digest_of(bytes: &[u8]) -> Option<ArtifactDigest> {
     if let Ok(short) = <[u8; 32]>::try_from(bytes) {
         return Some(ArtifactDigest::from(short));

@@ -34,7 +34,7 @@ fn of_statement(
 }
 
 /// `statement PAYLOAD`: the statement that the payload is: its two types, its predicate, and for each subject the
-/// name, the digests and the annotations; `-` stands for what is absent.
+/// name, the digests and the annotations; `-` is an absent one.
 fn whole(alloc: Global, answer: &mut Answer, statement: &InTotoStatementV1) {
     answer.ok();
     answer.debug(&statement.statement_type);

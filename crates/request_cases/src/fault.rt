@@ -12,8 +12,8 @@ use std::alloc::{AllocError, Global};
 /// How many bytes are added at a time.
 const PIECE: usize = 4096;
 
-/// `log_request_fault TEXT`: `ok` if the text is a request of `log`, or what is wrong with it: of a member the cause and
-/// the path.
+/// `log_request_fault TEXT`: `ok` if the text is a request of `log`, or what is wrong with it: for a member the cause
+/// and the path.
 pub(crate) fn log(arguments: &mut Arguments<'_>, answer: &mut Answer) {
     let text = arguments.rest();
     told(
@@ -49,7 +49,7 @@ pub(crate) fn audit(arguments: &mut Arguments<'_>, answer: &mut Answer) {
     );
 }
 
-/// `spaces_fault COUNT`: what is wrong with a text of so many spaces, as a request of `log`, of `verify`, of
+/// `spaces_fault COUNT`: what is wrong with a text of COUNT spaces, as a request of `log`, of `verify`, of
 /// `consistency` and of `audit`.
 pub(crate) fn spaces(arguments: &mut Arguments<'_>, answer: &mut Answer) {
     let alloc = arguments.alloc();

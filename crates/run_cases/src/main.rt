@@ -46,7 +46,7 @@ fn ran(arguments: &mut Arguments<'_>, answer: &mut Answer) {
     }
 }
 
-/// `request COUNT`: the SHA-256 and the length of the request of `demo` for so many entries, and the status and the
+/// `request COUNT`: the SHA-256 and the length of the request of `demo` for COUNT entries, and the status and the
 /// text of the reply of `log` to it.
 fn requested(arguments: &mut Arguments<'_>, answer: &mut Answer) {
     let alloc = arguments.alloc();

@@ -1,7 +1,7 @@
 -- What out of memory leaves open: every contract of a call that can run out of memory says it by these words.
 use Rattle.std.specs.Prelude.{◌≡◌, ◌⊎◌, Result, Ok, Err}
 
--- P holds, or x is what stands for out of memory: an error, or a result.
+-- P holds, or x is the value for out of memory: an error, or a result.
 abbrev pub OrMemory : {X : Type 0} → X → X → Type 0 → Type 0
 OrMemory memory x P = (x ≡ memory) ⊎ P
 

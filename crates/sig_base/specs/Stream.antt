@@ -1,5 +1,5 @@
 -- What a source gives and a sink takes, and what a fault of either rests on. A source means the bytes that it has
--- left, a sink those that it took so far, where they are told; and each a count of faults.
+-- left, a sink those that it took so far, if it tells them; and each has a count of faults.
 use Rattle.std.specs.Prelude.{◌≡◌, ℕ, ◌+◌, ◌-◌, ◌^◌, ◌<◌, ◌≤◌, min, List, [], ◌∷◌, ◌++◌, length, ⊤, Option, None}
 use Rattle.std.specs.Prelude.{Some, Result, IfOk, OnErr}
 use Rattle.std.specs.Io.KnownBytes.{Consumes, IsAtEnd}
@@ -17,7 +17,7 @@ pub record HasCause {T E : Type 0} (before now : ℕ) (result : Result T E) : Ty
 abbrev pub Moves : {E : Type 0} → Result ℕ E → List ℕ → Type 0
 Moves result piece = IfOk result (λ count. 0 < length piece → 0 < count)
 
--- this piece was given after those before it, where they are told
+-- this piece was given after those before it, if the sink tells them
 abbrev pub Hands : Option (List (List ℕ)) → Option (List (List ℕ)) → List ℕ → Type 0
 Hands None new piece = ⊤
 Hands (Some before) new piece = new ≡ Some (before ++ piece ∷ [])

@@ -1,4 +1,4 @@
-//! A counter of steps that contracts alone see.
+//! A counter of steps that only contracts see.
 ghost use Rattle.std.specs.Prelude.{◌≡◌, ℕ, ◌+◌, ◌<◌};
 
 use std::marker::Model;

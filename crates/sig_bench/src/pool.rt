@@ -63,7 +63,8 @@ impl SignatureChecker for Refusing {
 }
 
 /// Returns how many questions are asked about the leaf, the first certificate of the input, by a pool of the next
-/// `count` as trust anchors and of the rest, as many, as intermediates. `None` if there is no such pool, or an issuer.
+/// `count` as trust anchors and of the rest, an equal number, as intermediates. `None` if there is no such pool, or an
+/// issuer.
 pub fn questions(alloc: Global, input: &[u8], count: u64) -> Option<u64> {
     let (leaf, rest) = cut(input)?;
     let (anchors, rest) = cut_list(alloc, rest, count)?;

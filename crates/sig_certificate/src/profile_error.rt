@@ -1,4 +1,4 @@
-//! Why a certificate does not have the profile that is asked for.
+//! Why a certificate does not have the required profile.
 
 ghost use Rattle.std.specs.Prelude.{◌≡◌};
 ghost use Rattle.sig_certificate.specs.declared.profile_error.CertificateValidationError.TheVariants.{NotLeaf, NotCA};

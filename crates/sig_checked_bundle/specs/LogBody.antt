@@ -23,6 +23,6 @@ IsBodyAbout (Dsse pae digests envelope payload) digest signature certificate bod
 abbrev pub IsLogBody : Checked → List ℕ → Type 0
 IsLogBody c digest = IsBodyAbout c.content digest c.signature c.certificate.whole c.entry.canonicalized_body
 
--- without a network, or with a proof at hand: nothing has to be fetched
+-- without a network, or with a proof: nothing has to be fetched
 abbrev pub NeedsNoFetch : Bool → TransparencyLogEntry → Type 0
 NeedsNoFetch offline entry = IsTrue offline ⊎ IsSome entry.inclusion_proof

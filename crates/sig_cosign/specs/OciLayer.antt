@@ -62,7 +62,7 @@ abbrev pub as_content : Result Bundle SigstoreError → Result (Option BundleCon
 as_content (Ok b) = Ok (Some (RekorBundle b))
 as_content (Err e) = Err e
 
--- what Rekor promised, where it is noted and keys of logs are at hand
+-- what Rekor promised, if it is noted and keys of logs are given
 abbrev pub promised : AcceptsSpki → Option Keys → Option (List ℕ) → Result (Option BundleContent) SigstoreError
 promised spki keys None = Ok None
 promised spki None (Some text) = Ok None

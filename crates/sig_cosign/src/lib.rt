@@ -1,5 +1,5 @@
 //! What `cosign` stores beside a container image, as checked layers: a payload with its signature, who signed by the
-//! word of a certificate, and what a log promised or proved of the signature.
+//! word of a certificate, and what a log promised or proved about the signature.
 //!
 //! ```text
 //! descriptor  {"mediaType":"application/vnd.dev.cosign.simplesigning.v1+json","digest":"sha256:3fbd..",

@@ -211,7 +211,7 @@ fn signature(alloc: Global, descriptor: &OciDescriptor) -> Result<Text>
     }
 }
 
-/// What Rekor promised, where it is noted and keys of logs are at hand.
+/// What Rekor promised, if it is noted and keys of logs are given.
 fn promised<C: SignatureChecker>(
     alloc: Global,
     descriptor: &OciDescriptor,

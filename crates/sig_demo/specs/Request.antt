@@ -17,7 +17,7 @@ use Rattle.sig_demo.specs.declared.log.DemoLog.{DemoLog}
 abbrev pub demo_scheme : List ℕ
 demo_scheme = codes "ECDSA_P256_SHA256_ASN1"
 
--- what stands for the log's key
+-- the made-up key of the log
 abbrev pub demo_key : List ℕ
 demo_key = codes "key"
 

@@ -95,10 +95,10 @@ impl DemoLog {
 /// The name of the scheme under which the log is said to sign.
 const SCHEME: &str = "ECDSA_P256_SHA256_ASN1";
 
-/// What stands for the log's key.
+/// The made-up key of the log.
 const KEY: &[u8] = b"key";
 
-/// What stands for the log's signature.
+/// The made-up signature of the log.
 const SIGNATURE: &[u8] = b"sig";
 
 /// The text of a checkpoint that is read back. Fails only if out of memory.

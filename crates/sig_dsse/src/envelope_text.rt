@@ -102,7 +102,7 @@ fn signature_texts(alloc: Global, signatures: &DsseSignatures) -> Result<Vec<Str
     Ok(texts)
 }
 
-/// The JSON of a signature, if one without parts is at hand.
+/// The JSON of a signature; `empty` is one without parts.
 fn sparse_json(
     alloc: Global,
     signature: &SparseSignature,

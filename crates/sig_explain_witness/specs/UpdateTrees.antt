@@ -85,8 +85,8 @@ old_size_rows kept text =
 abbrev pub full_rows : List TreeMember
 full_rows = text_row (codes "link") (codes "full") ∷ texts_row (codes "cause") (codes "Full" ∷ []) ∷ []
 
--- of an update of these logs that fails with this error, while of so many more that `note-key` refuses all members are
--- shown; no update fails with another error
+-- for an update of these logs that fails with this error, while for this many more that `note-key` refuses all members
+-- are shown; no update fails with another error
 abbrev pub fault_rows : List AcceptedRow → Logs → ℕ → UpdateText → SignedCheckpoint → WitnessError → List TreeMember
 fault_rows rows logs left text checkpoint fault.UnknownOrigin = unknown_rows checkpoint
 fault_rows rows logs left text checkpoint fault.NoteKey =

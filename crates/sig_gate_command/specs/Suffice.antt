@@ -1,4 +1,4 @@
--- Nothing else matters: of the accepted signatures of a manifest those alone decide its reply that the bundles ask for,
+-- Nothing else matters: of a manifest's accepted signatures, only those that the bundles ask for decide its reply,
 -- also where no list was written; and a list that is written fits one request with the manifest that it is of.
 use Rattle.std.specs.Prelude.{◌≡◌, ◌≤◌, ◌↔◌, ℕ, List, ◌++◌, Contains, length}
 use Rattle.sig_base.specs.declared.checker.AcceptedRow.{AcceptedRow}

@@ -3,7 +3,7 @@
 //! What the layer above uses:
 //!
 //! - The canonical text of a tree is that of RFC 8785: in each object the members come in the ascending order of the
-//!   UTF-16 code units of their names. It fails with `IntegerTooLarge` if and only if the tree holds an integer beyond
+//!   UTF-16 code units of their names. It fails with `IntegerTooLarge` if and only if the tree holds an integer outside
 //!   plus or minus 2^53 - 1.
 //! - The compact text of a tree that nests to 127 is read back as the same tree.
 //! - A text in quotation marks has the escapes of canonical JSON.

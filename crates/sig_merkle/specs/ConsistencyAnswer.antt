@@ -76,8 +76,8 @@ IsWrongGrowthSize old_size new_size hashes got want =
     HasGrown old_size new_size × (hashes ≢ []) × (got ≡ length hashes) × (want ≡ roots_len old_size new_size true)
     × (got ≢ want)
 
--- the first comparison of roots that fails is of `expected`, which is computed, with `got`, which is
--- given: of the two given roots, where the sizes are equal; of the old root; or of the new root
+-- the first comparison of roots that fails is of `expected`, which is computed, with `got`, which is given: that of the
+-- two given roots, if the sizes are equal; of the old root; or of the new root
 abbrev pub IsMismatch : ℕ → ℕ → List (List ℕ) → List ℕ → List ℕ → List ℕ → List ℕ → Type 0
 IsMismatch old_size new_size hashes old new expected got =
     (expected ≢ got)

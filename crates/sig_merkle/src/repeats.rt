@@ -57,7 +57,7 @@ impl Repeats {
         }
     }
 
-    /// Returns the hash of a leaf, which is at hand if the entry is empty.
+    /// Returns the hash of a leaf, which is kept if the entry is empty.
     pub(crate) fn leaf(&self, entry: &[u8]) -> [u8; 32]
         ensures { result ≡ leaf_of entry.now }
     {
@@ -67,7 +67,7 @@ impl Repeats {
         hash_leaf(entry)
     }
 
-    /// Returns the hash of a node of two equal children, which is at hand if the last one of this height had the same.
+    /// Returns the hash of a node of two equal children, which is kept if the last one of this height had the same.
     pub(crate) fn node<L: Ledger>(
         &mut self,
         child: &[u8; 32],

@@ -1,4 +1,4 @@
--- The policy of one identity: who the certificate was issued for, and by whose word.
+-- The policy of one identity: whom the certificate was issued for, and by which issuer.
 use Rattle.std.specs.Prelude.{ℕ, List, [], ◌∷◌, Bool, false, ◌&&◌, Option, Some, None, option_map, codes}
 use Rattle.std.specs.Prelude.{if◌then◌else◌}
 use Rattle.std.specs.List.{list_any, filter_map, join_by}

@@ -1,4 +1,4 @@
-//! The identities that rules ask for, by the issuer that is asked for with each. The issuer of a certificate is looked up
+//! The identities that rules ask for, by the issuer that each comes with. The issuer of a certificate is looked up
 //! once, and then each of its names among those that are asked for with it.
 
 ghost use Rattle.std.specs.Prelude.{◌≡◌, ◌&&◌, ◌||◌, ℕ, List, Bool, None, not, OnOk, option_map, map};
@@ -47,7 +47,7 @@ fn take_names<'a>(
     }
 }
 
-/// Whether the issuer is said, and one of the identities is asked for with it.
+/// Whether the certificate names the issuer, and one of its identities is asked for with it.
 pub(crate) fn has_named(
     asked: &BTreeMap<&str, BTreeSet<&str>>,
     issuer: Option<&str>,
@@ -71,7 +71,7 @@ pub(crate) fn has_named(
     }
 }
 
-/// Whether each issuer that is asked for is the one that is said, and each identity is among those.
+/// Whether each required issuer is the certificate's, and each required identity is among its identities.
 pub(crate) fn are_named(
     asked: &BTreeMap<&str, BTreeSet<&str>>,
     issuer: Option<&str>,

@@ -14,7 +14,7 @@ use sig_base::OutOfMemory;
 use std::alloc::Global;
 use std::collections::{BTreeMap, BTreeSet};
 
-/// The texts that rules ask for of each of Fulcio's extensions, and the identities by the issuer that is asked for with
+/// The texts that rules require of each of Fulcio's extensions, and the identities by the issuer that is asked for with
 /// them. They are borrowed from the rules.
 #[derive(Drop)]
 pub(crate) struct AskedTexts<'a> {

@@ -18,7 +18,7 @@ use sig_der::oid;
 use std::alloc::Global;
 use std::marker::Model;
 
-/// The policy that a certificate was issued for this identity, by the word of this issuer. Contracts see both texts.
+/// The policy that a certificate was issued for this identity, by this issuer. Contracts see both texts.
 #[derive(Debug, Drop)]
 pub struct Identity {
     identity: Text,

@@ -37,7 +37,7 @@ pub enum LeafPolicy {
     GitHubWorkflowRepository(GitHubWorkflowRepository),
     /// The ref of the GitHub workflow.
     GitHubWorkflowRef(GitHubWorkflowRef),
-    /// The identity, by the word of an issuer.
+    /// The identity, with its issuer.
     Identity(Identity),
 }
 

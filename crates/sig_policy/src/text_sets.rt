@@ -1,5 +1,5 @@
-//! Sets of texts that rules ask for, and what a certificate says of them. A set has each text once, so that it ends after
-//! two texts at most whether each is the one that the certificate says.
+//! Sets of texts that rules ask for, and what a certificate says of them. A set has each text once, so that it ends
+//! after two texts at most whether each is the one that the certificate says.
 
 ghost use Rattle.std.specs.Prelude.{◌≡◌, ◌&&◌, ℕ, List, Bool, not, ◌||◌, OnOk, option_map, map};
 ghost use Rattle.std.specs.List.{list_any};
@@ -21,7 +21,7 @@ pub(crate) fn add_text<'a>(texts: &mut BTreeSet<&'a str>, text: &'a str) -> Resu
     Ok(())
 }
 
-/// Whether a text is said, and is the one that is asked for.
+/// Whether the certificate has the text, and it is the required one.
 pub(crate) fn is_said(asked: &str, said: Option<&str>) -> bool
     ensures { result ≡ is_asked_text asked.now (option_map (λ t. t.now) said.entry) }
 {
@@ -31,7 +31,7 @@ pub(crate) fn is_said(asked: &str, said: Option<&str>) -> bool
     }
 }
 
-/// Whether a text is said, and is one of those that are asked for.
+/// Whether the certificate has the text, and it is one of those that are asked for.
 pub(crate) fn has_said(asked: &BTreeSet<&str>, said: Option<&str>) -> bool
     ensures { result ≡ one_passes (λ q. is_asked_text q (option_map (λ t. t.now) said.entry)) asked.now.keys }
 {
@@ -48,7 +48,7 @@ fn is_asked(asked: &BTreeSet<&str>, text: &str) -> bool
     asked.contains(text)
 }
 
-/// Whether each text that is asked for is the one that is said.
+/// Whether each required text is the one that the certificate has.
 pub(crate) fn are_said(asked: &BTreeSet<&str>, said: Option<&str>) -> bool
     ensures { result ≡ not (one_passes (λ q. not (is_asked_text q (option_map (λ t. t.now) said.entry)))
         asked.now.keys) }

@@ -1,4 +1,4 @@
--- Nothing else matters: of the accepted signatures of a request those alone decide its reply that its checkpoint or its
+-- Nothing else matters: of a request's accepted signatures, only those decide its reply that its checkpoint or its
 -- bundle asks for, also where no list was written.
 use Rattle.std.specs.Prelude.{◌↔◌, ℕ, List, Contains}
 use Rattle.sig_base.specs.declared.checker.AcceptedRow.{AcceptedRow}

@@ -5,8 +5,8 @@
 //! {"cause":["ConsistencyProofError","MismatchedRoot"],"link":"note-match","note":{..},"proof":{..}}
 //! ```
 //!
-//! A module for each command that has its own links makes reply and explanation of one reading of the request, and so does
-//! the crate of `explain gate`; those of `audit` and `witness` are made by the crates of these commands.
+//! A module for each command that has its own links makes reply and explanation of one reading of the request, and so
+//! does the crate of `explain gate`; those of `audit` and `witness` are made by the crates of these commands.
 ghost use Rattle.std.specs.Prelude.{◌≡◌, IfOk};
 ghost use Rattle.sig_program.specs.ExplainedReply.{IsExplained, long_explained};
 ghost use Rattle.sig_program.specs.Explanation.{HasOneExplanation};
@@ -30,7 +30,7 @@ use sig_request_fault::RequestFault;
 use sig_witness_command::witness_reply;
 use std::alloc::Global;
 
-/// Returns the reply of a command to a request's text, with its explanation as the last line: what stands before that line
+/// Returns the reply of a command to a request's text, with its explanation as the last line: what is before that line
 /// is the command's reply, and the status is the command's. Fails only if out of memory.
 pub fn explained_reply(alloc: Global, what: Explained, request: &[u8]) -> Result<Reply, OutOfMemory>
     ensures reply { IfOk result (IsExplained what request.now) }
@@ -48,8 +48,9 @@ pub fn explained_reply(alloc: Global, what: Explained, request: &[u8]) -> Result
     explain(alloc, what, request)
 }
 
-/// The explained reply of a command to a request's text. No command is a part of this function when it is compiled: a caller
-/// of the library has 128 KB of stack, of which a text that nests to 127 takes half, and the others' frames would be there too.
+/// The explained reply of a command to a request's text. No command is a part of this function when it is compiled: a
+/// caller of the library has 128 KB of stack, of which a text that nests to 127 takes half, and the others' frames
+/// would be there too.
 fn explain(alloc: Global, what: Explained, request: &[u8]) -> Result<Reply, OutOfMemory>
     ensures { IfOk result (IsExplained what request.now) }
 {
@@ -63,8 +64,8 @@ fn explain(alloc: Global, what: Explained, request: &[u8]) -> Result<Reply, OutO
     }
 }
 
-/// Returns `refused request`, and that the text is too long, with status 2: the explained reply of each command to a text
-/// of more than 2^24 bytes. Fails only if out of memory.
+/// Returns `refused request`, and that the text is too long, with status 2: the explained reply of each command to a
+/// text of more than 2^24 bytes. Fails only if out of memory.
 pub fn long_reply(alloc: Global) -> Result<Reply, OutOfMemory>
     ensures { IfOk result (λ reply. reply ≡ long_explained) }
 {

@@ -137,9 +137,9 @@ pub fn run<S: Source, K: Sink>(alloc: Global, words: &[Text], source: &mut S, si
         (K.handed sink.new) }
     ensures later { (S.faults source.old ≤ S.faults source.new) × (K.faults sink.old ≤ K.faults sink.new) }
 
-    // Nothing else matters: of the accepted signatures of a request of `log`, `consistency`, `audit` or `witness`, its
-    // reply depends on those alone that are a signature of one of its checkpoints, over the note, under the log's
-    // scheme and key; and of a request of `verify` or `gate` on those alone that a link asks for. `questions` lists
+    // Nothing else matters: for the accepted signatures of a request of `log`, `consistency`, `audit` or `witness`, its
+    // reply depends only on those that are a signature of one of its checkpoints, over the note, under the log's
+    // scheme and key; and of a request of `verify` or `gate` only on those that a link asks for. `questions` lists
     // them; where it writes no list, as that is too long or a link fails whatever is accepted, the same holds.
     ensures suffice { LogQuestionsSuffice × VerifyQuestionsSuffice × ConsistencyQuestionsSuffice
         × AuditQuestionsSuffice × WitnessQuestionsSuffice × GateQuestionsSuffice }

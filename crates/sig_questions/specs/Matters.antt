@@ -47,7 +47,7 @@ last_of c (x ∷ xs) = last_of x xs
 -- The row is a step of a path that would lead from the certificate to a trust anchor, if every signature of a
 -- certificate were genuine: over the lower intermediates to the last of them, whose signature this is, and on over the
 -- upper ones, of which the first signed. Where there are no lower ones, the bundle's certificate is signed, and where
--- there are no upper ones, the trust anchor signed. Of the step this holds.
+-- there are no upper ones, the trust anchor signed. This holds of the step.
 abbrev pub OfStep : Inputs → AcceptedRow → (Trust → List Cert → List Cert → Type 0) → Type 0
 OfStep i row P = OfChecked i (λ trust c. OfPath trust c (λ path anchor.
     (lower : List Cert) × (upper : List Cert) × (path ≡ lower ++ upper)

@@ -119,8 +119,8 @@ pub fn questions(
     // The rows are those of each group of links, one after the other.
     ensures order { IfOk result (AreQuestions
         (record { root = trusted_root.now; now = now; digest = digest.now; bundle = bundle.now })) }
-    // Of two positions the smaller is of an earlier link, or of the same link and an earlier place: of the certificates
-    // that were signed and of those that signed, or of the signatures of the note.
+    // The smaller of two positions is that of an earlier link, or of the same link and an earlier place: of the
+    // certificates that were signed and of those that signed, or of the signatures of the note.
     ensures places { IfOk result (AreInOrder (IsAskedAt
         (record { root = trusted_root.now; now = now; digest = digest.now; bundle = bundle.now }))) }
     // For n trust anchors at most 17 * (16 + n) rows are of signatures of certificates, and at most 16 + n of the SCT.

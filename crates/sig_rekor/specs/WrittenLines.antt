@@ -4,7 +4,7 @@ use Rattle.sig_rekor.specs.TextCuts.{Lacks}
 use Rattle.sig_rekor.specs.NoteText.{line_feed}
 use Rattle.sig_rekor.specs.CheckpointText.{empty_line}
 
--- a text of lines, none of them empty
+-- a text of lines that are not empty
 pub record AreWritten (text : List ℕ) : Type 0 where
   pub some : text ≢ []
   pub front : (rest : List ℕ) → text ≢ line_feed ∷ rest

@@ -188,7 +188,7 @@ pub fn default_algorithm() -> AlgorithmKind
 }
 
 /// A text is read as a log entry if and only if it is a document of the entry's members, each under its name, and of no
-/// others. The JSON of a body, and of an entry to propose, has the members `apiVersion`, `kind` and `spec` alone, each
+/// others. The JSON of a body, and of an entry to propose, has only the members `apiVersion`, `kind` and `spec`, each
 /// with its value; and the spec of a `hashedrekord` has only `data.hash.algorithm`, `data.hash.value`,
 /// `signature.content` and `signature.publicKey.content`. It has no code.
 pub fn entry_members()

@@ -13,7 +13,7 @@
 //! table of the format. A log entry's check of inclusion fails with the first condition that does not hold: a proof,
 //! its texts, a canonical body, and then those of [`InclusionProof::verify`]. What the API says of a tree head and of
 //! a consistency proof is taken for them if and only if each hash is 64 hexadecimal digits, and else the first that is
-//! not is told. The JSON of a body and of a proposed entry is the object of its kind, version and spec.
+//! not is the error. The JSON of a body and of a proposed entry is the object of its kind, version and spec.
 //!
 //! [`InclusionProof::verify`]: sig_rekor::InclusionProof::verify
 #![tactic(auto)]

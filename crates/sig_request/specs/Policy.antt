@@ -55,7 +55,7 @@ one_of_five trigger sha name repository git_ref = do
   of_four ← one_at_most of_three (option_map repository_is repository)
   one_at_most of_four (option_map ref_is git_ref)
 
--- what is asked of the workflow
+-- what is required of the workflow
 unfoldable pub workflow_policy : Data → Option (Option LeafPolicy)
 workflow_policy d = do
   trigger ← optional text_of (codes "trigger") d

@@ -27,7 +27,7 @@ members_of_rule (rule.GitHubWorkflowName p) = (codes "name", p.0) ∷ []
 members_of_rule (rule.GitHubWorkflowRepository p) = (codes "repository", p.0) ∷ []
 members_of_rule (rule.GitHubWorkflowRef p) = (codes "ref", p.0) ∷ []
 
--- The value is an object that is this rule: of the members that a rule may have, it has exactly those of the rule, each
+-- The value is an object that is this rule: it has exactly the rule's members among those that a rule may have, each
 -- a text, and the others are absent or null.
 abbrev pub IsRule : Data → LeafPolicy → Type 0
 IsRule d r =

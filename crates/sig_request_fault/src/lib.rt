@@ -4,7 +4,7 @@
 //! ```text
 //! rootHash                      absent
 //! accepted[3].scheme            beside another member: the operation is `point`
-//! policy.all[0].issuer          absent: the rule has no other member, or an identity alone
+//! policy.all[0].issuer          absent: the rule has no other member, or only an identity
 //! policy.any                    beside another member: `all` is there
 //! heads                         beyond its range: no head, or more than 256
 //! watched[7].head               beyond its range: the index of no head

@@ -1,4 +1,4 @@
-//! `CertificateSignature`: who signed, by the word of a certificate.
+//! `CertificateSignature`: the signer that a certificate names.
 ghost use Rattle.std.specs.Prelude.{◌≡◌, Ok, Err, IfOk, IfErr, Result as result_type};
 ghost use Rattle.sig_base.specs.Answers.{Answers, OrMemory};
 ghost use Rattle.sig_base.specs.declared.error.SigstoreError.{SigstoreError as refusal_type};
@@ -37,7 +37,7 @@ pub struct CertificateSignature {
 }
 
 impl CertificateSignature {
-    /// Returns who signed, by the word of the certificate that the bytes (DER) are. Times are seconds since 1970:
+    /// Returns the signer that the certificate that the bytes (DER) are names. Times are seconds since 1970:
     /// `integrated_time` is when a log took the signature.
     ///
     /// Errors, the first that applies:

@@ -13,7 +13,7 @@ use sig_checked_bundle::Version;
 use std::alloc::Global;
 use std::marker::Model;
 
-/// A signature over an artifact, with what shows whose it is. Contracts see its four parts. Nothing is checked of
+/// A signature over an artifact, with what shows its signer. Contracts see its four parts. Nothing is checked of
 /// them.
 #[derive(Drop)]
 pub struct SigningArtifact {

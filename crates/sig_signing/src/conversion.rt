@@ -23,7 +23,7 @@ use std::alloc::Global;
 
 /// Returns a log entry of Rekor's API as an entry of a bundle. Nothing in it is checked, neither a signature nor a
 /// length. The body is the canonical JSON (RFC 8785) of the entry's body; the promise, the log's id, the root and the
-/// hashes are the bytes that their texts stand for; a proof is there if and only if the entry has one, with its
+/// hashes are the bytes that their texts encode; a proof is there if and only if the entry has one, with its
 /// checkpoint's text, also where that is empty. The kind is `hashedrekord` of version `0.0.1`, whatever the body's.
 ///
 /// Fails with `Refused` if and only if one of these texts is not the hexadecimal digits or the padded base64 of bytes,

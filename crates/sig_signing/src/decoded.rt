@@ -1,4 +1,4 @@
-//! Texts of Rekor's API as the bytes that they stand for.
+//! Texts of Rekor's API as the bytes that they encode.
 ghost use Rattle.std.specs.Prelude.{◌≡◌};
 ghost use Rattle.sig_base.specs.Answers.{Answers};
 ghost use Rattle.sig_base.specs.ResultSteps.{each_from};

@@ -1,15 +1,15 @@
 //! Member tables, and the first member of a document that breaks one.
 //!
-//! The readers of sig_json say that a member breaks its row of a table, and not which. This crate finds it, for a caller
-//! that has to tell somebody:
+//! The readers of sig_json say that a member breaks its row of a table, and not which. This crate finds it, for a
+//! caller that reports it:
 //!
 //! ```text
 //! verificationMaterial.tlogEntries[0].inclusionProof.rootHash
 //! ```
 //!
-//! A table is what a value has to be: of one kind, a list whose elements keep to a table, or an object whose members keep
-//! to the rows of a table, in an order. A row is a required member, an optional one, or some members of which at most
-//! one is there. Null is the same as absent, and members that no row names are ignored.
+//! A table is what a value has to be: of one kind, a list whose elements keep to a table, or an object whose members
+//! keep to the rows of a table, in an order. A row is a required member, an optional one, or some members of which at
+//! most one is there. Null is the same as absent, and members that no row names are ignored.
 //!
 //! What the layer above uses:
 //!

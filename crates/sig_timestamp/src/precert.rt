@@ -32,7 +32,7 @@ pub fn precert_tbs_der(alloc: Global, leaf: &Certificate) -> Result<Bytes, OutOf
     ensures is { IfOk result (λ t. t ≡ precertificate leaf.now) }
     ensures keeps { IfOk result (IsWithoutScts leaf.now) }
 {
-    // What is written anew is no longer than what a certificate holds, so that its lengths have a spelling.
+    // What is written anew is not longer than what a certificate holds, so that its lengths have a spelling.
     leaf.is_certificate();
     precertificate(alloc, leaf)
 }

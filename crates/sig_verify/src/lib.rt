@@ -5,7 +5,7 @@
 //! is a call with a contract of its own: the two readers, [`Verifier::new`], the bundle's own checks and
 //! [`Verifier::verify_digest_with`], [`verify_log_entry`]. A [`HeldRoot`] is what many bundles need of one trusted
 //! root: it is read once, and [`HeldRoot::verify`] returns for each bundle what `verify_offline` does. Signatures are
-//! genuine if the handed [`SignatureChecker`](sig_base::SignatureChecker) says so, and every fact here is relative to
+//! genuine if the given [`SignatureChecker`](sig_base::SignatureChecker) says so, and every fact here is relative to
 //! it.
 #![tactic(auto)]
 

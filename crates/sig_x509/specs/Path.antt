@@ -97,7 +97,7 @@ pub record IsAskedOn (pool : Pool) (c : Cert) (t : ℤ) (y x : Cert) : Type 0 wh
   pub path : IsPath every_signature pool c t over anchor
   pub next : IsNext c over anchor y x
 
--- two checkers say the same of the signatures that are asked about
+-- two checkers agree on the signatures that are asked about
 abbrev pub AgreeOnPaths : Accepts → Accepts → Pool → Cert → ℤ → Type 0
 AgreeOnPaths accepts other pool c t = (y x : Cert) → IsAskedOn pool c t y x
     → accepts x.spki y.algorithm y.tbs y.signature ≡ other x.spki y.algorithm y.tbs y.signature

@@ -49,7 +49,7 @@ of_read passes (Some x) = passes x
 abbrev pub is_rooted : Accepts → Pool → Cert → Bool
 is_rooted accepts pool x = list_any (is_signed_by accepts x) pool.anchors
 
--- x can be at the place with so many others before it, in a path with at most `left` places from there on
+-- x can be at the place with this number of others before it, in a path with at most `left` places from there on
 unfoldable pub leads : Accepts → Pool → ℤ → ℕ → ℕ → Cert → Bool
 leads accepts pool t zero others x = false
 leads accepts pool t (suc left) others x = can_stand t others x

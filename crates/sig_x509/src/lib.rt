@@ -4,7 +4,7 @@
 //!
 //! The layer above uses one fact. A pool returns the issuer in the first certification path that leads from the
 //! certificate over its intermediates to a trust anchor, or that the certificate does not have the profile of what may
-//! be issued, or that there is no path. `uncounted` has the same calls for a caller that counts no questions.
+//! be issued, or that there is no path. `uncounted` has the same calls for a caller that does not count questions.
 #![tactic(auto)]
 
 mod asked;

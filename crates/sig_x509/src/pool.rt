@@ -165,7 +165,7 @@ impl CertificatePool {
         self.find_issuer(alloc, leaf, further, verification_time, checker, steps)
     }
 
-    /// Returns what `verify_cert_with_chain` returns for a leaf that comes alone, with the same errors.
+    /// Returns what `verify_cert_with_chain` returns for a leaf without further certificates, with the same errors.
     pub fn verify_cert_with_time<C: SignatureChecker, L: Ledger>(
         &self,
         alloc: Global,

@@ -1,5 +1,5 @@
-//! The signatures of certificates that lie on a path which would hold if every signature were genuine: of no other does
-//! the result of a search rest on the checker's word.
+//! The signatures of certificates on a path that would hold if every signature were genuine. The result of a search
+//! does not depend on what the checker says of any other.
 
 ghost use Rattle.std.specs.Prelude.{◌≡◌, ◌<◌, map, IfOk};
 ghost use Rattle.sig_x509.specs.Possible.{anchor_signer, any_below, below, down_at, further_signed, further_signer};

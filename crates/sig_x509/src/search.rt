@@ -40,8 +40,8 @@ impl CertificatePool {
         }
     }
 
-    /// Returns the issuer of the leaf in the first path, or why there is none. The checker is asked about no key if it
-    /// lists none for the leaf's signature.
+    /// Returns the issuer of the leaf in the first path, or why there is none. The checker is not asked about any key
+    /// if it lists none for the leaf's signature.
     pub(crate) fn find_issuer<C: SignatureChecker, L: Ledger>(
         &self,
         alloc: Global,
@@ -134,8 +134,8 @@ fn first_leading<C: SignatureChecker, L: Ledger>(
     None
 }
 
-/// Whether the row holds of the intermediate at the index and it signed the leaf, of which the checker is asked then
-/// alone.
+/// Whether the intermediate at the index has the row's bit and signed the leaf; the checker is asked only if the bit is
+/// set.
 fn is_leading<C: SignatureChecker, L: Ledger>(
     leaf: &Certificate,
     intermediates: &[Option<&Certificate>],

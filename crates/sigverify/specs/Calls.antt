@@ -13,7 +13,7 @@ abbrev pub outcome_of : {A : Type 0} → Result A Error → Outcome
 outcome_of (Ok value) = None
 outcome_of (Err error) = Some (error_kind error)
 
--- a call that came to this was made after those before it, where they are told
+-- a call that came to this was made after those before it, if they are known
 abbrev pub Tells : Option (List Outcome) → Option (List Outcome) → Outcome → Type 0
 Tells None new outcome = ⊤
 Tells (Some before) new outcome = new ≡ Some (before ++ outcome ∷ [])
@@ -27,7 +27,7 @@ abbrev pub WereInterrupted : Option (List Outcome) → Option (List Outcome) →
 WereInterrupted None new count = ⊤
 WereInterrupted (Some before) new count = new ≡ Some (before ++ interrupted count)
 
--- The calls that were made, where they are told: any number that were interrupted, and then one that came to this; that
+-- The calls that were made, if they are known: any number that were interrupted, and then one that came to this; that
 -- one was interrupted only if it was the last of 2^64 - 1 calls.
 abbrev pub AreMadeUntil : Option (List Outcome) → Option (List Outcome) → Outcome → Type 0
 AreMadeUntil None new outcome = ⊤

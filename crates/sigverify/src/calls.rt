@@ -13,7 +13,7 @@ pub trait ReadCalls {
     /// The bytes that calls will give from here on, where they are known.
     ghost remaining: { Self → Option (List ℕ) };
 
-    /// What each call so far came to, where it is told.
+    /// The outcome of each call so far, if it is known.
     ghost calls: { Self → Option (List Outcome) };
 
     /// Makes one call.
@@ -28,7 +28,7 @@ pub trait WriteCalls {
     /// The bytes that calls wrote so far, where they are known.
     ghost contents: { Self → Option (List ℕ) };
 
-    /// What each call so far came to, where it is told.
+    /// The outcome of each call so far, if it is known.
     ghost calls: { Self → Option (List Outcome) };
 
     /// Makes one call.
@@ -38,7 +38,7 @@ pub trait WriteCalls {
         ensures told { Tells (calls self.old) (calls self.new) (outcome_of result) };
 }
 
-/// The calls of a reader or a writer of `std`, which does not tell them.
+/// The calls of a reader or a writer of `std`, which does not report them.
 #[derive(Drop)]
 pub struct Calls<T: Drop> {
     pub inner: T,

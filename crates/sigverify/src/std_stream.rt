@@ -1,5 +1,5 @@
-//! Standard input and output as a source and a sink. They do not tell the bytes: what the system gives and takes is
-//! outside every proof.
+//! Standard input and output as a source and a sink. Their contracts do not give the bytes: what the system gives and
+//! takes is outside every proof.
 ghost use Rattle.std.specs.Prelude.{◌≡◌, None};
 
 use crate::calls::{Calls, read_once, write_once};

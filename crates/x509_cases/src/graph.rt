@@ -115,7 +115,7 @@ fn read(alloc: Global, word: &str) -> Result<Certificate, NoGraph> {
     certificate_of(alloc, &der)
 }
 
-/// The DER of a word: of the certificate that its letters spell; of `?` bytes that are not one.
+/// The DER of a word: that of the certificate that its letters spell, or, for `?`, bytes that are not one.
 fn der_of(alloc: Global, word: &str) -> Result<Vec<u8>, NoGraph> {
     match Node::spelled(word.as_bytes()) {
         Some(node) => Ok(node.certificate(alloc)?),

@@ -1,4 +1,4 @@
--- Sorted by the texts, neighbours tell; sorted back by the places, the list is as it was.
+-- Sorted by the texts, neighbours decide; sorted back by the places, the list is as it was.
 use Rattle.std.proofs.Common.{rules}
 use Rattle.std.proofs.lemmas.Fn.{always_returns_same}
 use Rattle.std.proofs.lemmas.List.Sorted.{IsPermutation-trans, IsNonDecreasingBy-from_sort_by_key}

@@ -1,4 +1,4 @@
--- What is written anew is no longer than what stands there.
+-- What is written anew is not longer than the original.
 use Rattle.std.proofs.Common.{sym}
 use Rattle.sig_timestamp.proofs.PrecertLaws.{have_spelling}
 use Rattle.sig_timestamp.proofs.precert.precertificate.Goals as goal
