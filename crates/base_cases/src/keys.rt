@@ -34,7 +34,7 @@ pub(crate) fn try_from_spki(arguments: &mut Arguments<'_>, answer: &mut Answer) 
     );
 }
 
-/// Adds a key, or why there is none.
+/// Adds a key, or why there is no key.
 fn read(answer: &mut Answer, found: Result<CosignVerificationKey>) {
     match found {
         Ok(key) => {

@@ -53,7 +53,7 @@ pub(crate) fn copied(arguments: &mut Arguments<'_>, answer: &mut Answer) {
     drop(bundle);
 }
 
-/// The bundle that a text is. Where it is none, an empty one, and the line is a bad one.
+/// The bundle that a text is. If it is not one, an empty bundle, and the line is a `bad line`.
 pub(crate) fn bundle(text: &str, arguments: &mut Arguments<'_>, answer: &mut Answer) -> Bundle {
     match read_bundle(arguments.alloc(), text.as_bytes()) {
         Ok(bundle) => bundle,

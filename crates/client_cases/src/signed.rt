@@ -11,7 +11,7 @@ use sig_signing::{SigningArtifact, try_from_log_entry};
 use std::alloc::Global;
 
 /// `to_bundle DIGEST CERT SIGNATURE ENTRY`, the entry as Rekor's API returns it: the text of the bundle, and whether it
-/// is read back as the bundle. The line is a bad one where the entry is none or is not converted.
+/// is read back as the bundle. The line is a `bad line` if the entry is not one or is not converted.
 pub(crate) fn bundle(arguments: &mut Arguments<'_>, answer: &mut Answer) {
     let digest = arguments.bytes();
     let certificate = arguments.bytes();

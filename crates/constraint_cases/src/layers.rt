@@ -17,8 +17,8 @@ pub(crate) fn text(arguments: &mut Arguments<'_>) -> Text {
     Text::from(arguments.text())
 }
 
-/// The next six arguments as a layer: its payload, its raw data in hexadecimal, its signature, its subject and issuer, and
-/// its bundle. `None` if the payload is none.
+/// The next six arguments as a layer: its payload, its raw data in hexadecimal, its signature, its subject and issuer,
+/// and its bundle. `None` if the payload is not one.
 pub(crate) fn layer(arguments: &mut Arguments<'_>, answer: &mut Answer) -> Option<SignatureLayer> {
     let payload = arguments.text();
     match read_signing(arguments.alloc(), payload.as_str().as_bytes()) {
@@ -44,7 +44,7 @@ fn layer_of(arguments: &mut Arguments<'_>, simple_signing: SimpleSigning) -> Sig
     }
 }
 
-/// The next argument as a text: `-` is none, and `=TEXT` is this one, in percent-encoding.
+/// The next argument as a text: `-` is an absent one, and `=TEXT` is this one, in percent-encoding.
 pub(crate) fn optional_text(arguments: &mut Arguments<'_>) -> Option<Text> {
     let text = arguments.text();
     match text.as_str().strip_prefix("=") {
@@ -69,7 +69,7 @@ pub(crate) fn text_of(arguments: &mut Arguments<'_>, text: &str) -> Text {
     }
 }
 
-/// The next two arguments as who signed: `-`, `email:TEXT` or `uri:TEXT`, and the issuer.
+/// The next two arguments as the signer: `-`, `email:TEXT` or `uri:TEXT`, and the issuer.
 fn signer(arguments: &mut Arguments<'_>) -> Option<CertificateSignature> {
     let subject = arguments.text();
     let issuer = optional_text(arguments);

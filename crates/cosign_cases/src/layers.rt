@@ -163,7 +163,7 @@ pub(crate) fn show_text(
     }
 }
 
-/// A layer: payload, digest, signature, what a log says of it, who signed, and raw data.
+/// A layer: payload, digest, signature, what a log says of it, its signer, and raw data.
 pub(crate) fn show_made(
     alloc: Global,
     answer: &mut Answer,

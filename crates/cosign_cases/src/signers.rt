@@ -6,7 +6,7 @@ use sig_cosign::{CertificateSignature, CertificateSubject};
 use sig_part_cases::pool;
 use sig_x509::Certificate;
 
-/// `subject DER`: whom the certificate names.
+/// `subject DER`: the subject that the certificate names.
 pub(crate) fn subject(arguments: &mut Arguments<'_>, answer: &mut Answer) {
     let alloc = arguments.alloc();
     let der = arguments.hex();

@@ -3,7 +3,7 @@
 //!
 //! Their origin: `tools/request_cases.py` over `tools/fixture.py` and `tools/request_fault.py`, programs in another
 //! language that were written from the standards. Each call for a signature asks for one, of which the rows after it
-//! are said to be genuine: all of the request's rows, or all but one.
+//! are accepted as genuine: all of the request's rows, or all except one.
 #![tactic(auto)]
 
 mod fault;
@@ -51,7 +51,7 @@ fn envelope(arguments: &mut Arguments<'_>, answer: &mut Answer) {
     drop(key);
 }
 
-/// The key of the next argument. Refuses the line if it is none.
+/// The key of the next argument. The line is a `bad line` if it is not one.
 fn key(arguments: &mut Arguments<'_>) -> CosignVerificationKey {
     match CosignVerificationKey::try_from_spki(arguments.alloc(), &arguments.hex()) {
         Ok(key) => key,

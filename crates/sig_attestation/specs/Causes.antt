@@ -84,7 +84,7 @@ OfEntry m P = (t : TransparencyLogEntry) × (m.tlog_entries ≡ t ∷ []) × P t
 abbrev pub OfKeys : Asked → (Keys → Type 0) → Type 0
 OfKeys q P = (keys : Keys) × (q.keys ≡ Some keys) × P keys
 
--- the entry names a log, of whose id this holds
+-- the entry names a log, and this holds of its id
 abbrev pub OfId : TransparencyLogEntry → (List ℕ → Type 0) → Type 0
 OfId t P = (id : List ℕ) × (t.log_id ≡ Some id) × P id
 

@@ -40,7 +40,7 @@ IsNoHeads texts OutOfMemory = ⊤
 abbrev pub IsUnder : List AuditHead → Watch → Type 0
 IsUnder heads watch = watch.head < length heads
 
--- what the request takes for genuine under the log's scheme and key: messages and signatures
+-- what the request accepts as genuine under the log's scheme and key: messages and signatures
 abbrev pub accepts : AuditRequest → List ℕ → List ℕ → Bool
 accepts request message signature =
     accepted request.accepted Message (name_of (scheme_of request.scheme)) request.key message signature

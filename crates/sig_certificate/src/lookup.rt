@@ -13,7 +13,7 @@ use crate::span::part;
 pub struct ExtensionRef<'a> {
     /// The contents octets of the object identifier.
     pub oid: &'a [u8],
-    /// Whether who does not know the extension has to reject the certificate.
+    /// Whether a reader that does not know the extension has to reject the certificate.
     pub critical: bool,
     /// The contents octets of the OCTET STRING.
     pub value: &'a [u8],
@@ -24,7 +24,7 @@ pub struct ExtensionRef<'a> {
 /// The extensions of one object identifier.
 #[derive(Clone, Copy, Debug)]
 pub enum Lookup<'a> {
-    /// There is none.
+    /// There is no such extension.
     Absent,
     /// This is the only one.
     One(ExtensionRef<'a>),

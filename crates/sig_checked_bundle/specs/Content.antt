@@ -58,7 +58,7 @@ digests_in payload = do
   statement ← statement_or_refusal (statement_of payload)
   under_bundle_names (digests_or_fault statement)
 
--- a signature, and what it has to be over: nobody has checked that it is
+-- a signature, and what it has to be over: it is not checked that it is
 pub record ContentWithSignature : Type 0 where
   pub signature : List ℕ
   pub content : CheckedContent

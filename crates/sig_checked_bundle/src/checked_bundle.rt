@@ -112,8 +112,8 @@ impl CheckedBundle {
     }
 
     /// Returns the log entry if its body is about what the bundle holds, and nothing has to be fetched to check it:
-    /// with `offline`, or with an inclusion proof. Returns `None` if and only if one of both does not hold. Fails only
-    /// if out of memory.
+    /// with `offline`, or with an inclusion proof. Returns `None` if and only if one of the two does not hold. Fails
+    /// only if out of memory.
     ///
     /// The body of an entry about a signature over an artifact is the document of kind `hashedrekord`, version 0.0.1
     /// (Rekor), that has `input_digest`, the artifact's SHA-256, in lower-case hexadecimal, the signature, and the PEM

@@ -96,7 +96,7 @@ pub record IsReadResult (der : List ℕ) (result : Result Cert SigstoreError) : 
   pub only : (c : Cert) → IsCertificate der c → UnlessMemory OutOfMemory result (result ≡ Ok c)
   pub none : ((c : Cert) → ¬ IsCertificate der c) → UnlessMemory OutOfMemory result (result ≡ Err X509Error)
 
--- the bytes are not a certificate, and this is said of them
+-- the bytes are not a certificate, and this is the error
 abbrev pub IsUnreadable : List ℕ → Result Key SigstoreError → Type 0
 IsUnreadable der meant = (meant ≡ Err X509Error) × ((c : Cert) → ¬ IsCertificate der c)
 

@@ -60,7 +60,7 @@ impl<C: SignatureChecker + Drop> CertificateVerifier<C> {
         ensures made { IfOk result (λ v. IsCertificateVerifier (C.spki_accepts checker) (C.cert_accepts checker)
             cert_bytes.now (option_copied cert_chain.entry) now require_rekor_bundle
             (⟦<CertificateVerifier<C> as VerificationConstraint>⟧.holds v)) }
-        // It is made where that is so, unless memory ran out.
+        // If that holds, the verifier is made, unless memory ran out.
         ensures comes { (key : key_type) → IsCertifiedKey (C.cert_accepts checker) cert_bytes.now
             (option_copied cert_chain.entry) now (Ok key) → UnlessMemory Memory result (IsOk result) }
         // An error has its cause, unless memory ran out.

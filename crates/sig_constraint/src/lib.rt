@@ -15,10 +15,10 @@
 //! that none satisfies. A constraint makes a layer of one to which it applies, and `apply_constraints` leaves what the
 //! constraints give one after another. Both are proved for every implementation of the two traits.
 //!
-//! **Each constraint may be satisfied by another layer**: hand in one layer at a time if all of them are to hold of the
+//! **Each constraint may be satisfied by another layer**: give one layer at a time if all of them are to hold of the
 //! same one. **Only [`PublicKeyVerifier`] and [`CertificateVerifier`] check a signature over the layer**: a layer that
-//! anybody made can have a genuine certificate of somebody else, of which [`CertSubjectEmailVerifier`] and
-//! [`CertSubjectUrlVerifier`] hold.
+//! anybody made can have a genuine certificate of somebody else: [`CertSubjectEmailVerifier`] and
+//! [`CertSubjectUrlVerifier`] hold of it.
 #![tactic(auto)]
 
 mod annotation_marker;

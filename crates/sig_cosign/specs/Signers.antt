@@ -24,7 +24,7 @@ IsSignerAmong accepts pool None bundle now signer = signer ≡ None
 IsSignerAmong accepts pool (Some der) None now signer = signer ≡ None
 IsSignerAmong accepts pool (Some der) (Some bundle) now signer = IsSignerIn accepts pool der (time_of bundle) now signer
 
--- for private clauses: nobody, and the error is not that memory ran out
+-- for private clauses: no signer, and the error is not out of memory
 abbrev pub IsNoMemory : SigstoreError → Type 0
 IsNoMemory OutOfMemory = ⊥
 IsNoMemory other = ⊤

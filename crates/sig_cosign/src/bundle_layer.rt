@@ -22,7 +22,7 @@ use std::alloc::Global;
 impl SignatureLayer {
     /// Returns the layer of a Sigstore bundle that `cosign` made of the image whose manifest has the digest
     /// `source_image_digest`, with or without `sha256:` at its front, at `now` in seconds since 1970. Its raw data is
-    /// the pre-authentication encoding of the bundle's envelope, its signature the envelope's. Who signed is in it if
+    /// the pre-authentication encoding of the bundle's envelope, its signature the envelope's. The signer is in it if
     /// and only if a pool is given, and
     /// [`CertificateSignature::from_der_certificate`](crate::CertificateSignature::from_der_certificate) returns it at
     /// the time of the entry. **No signature over the layer is checked here**, only what the log says of it.
@@ -70,7 +70,7 @@ impl SignatureLayer {
     }
 }
 
-/// The layer of what is attested, with who signed. Fails only if out of memory.
+/// The layer of what is attested, with the signer. Fails only if out of memory.
 fn attested<C: SignatureChecker>(
     alloc: Global,
     attestation: Attestation,

@@ -9,11 +9,11 @@
 //! ```
 //!
 //! The layer above uses three facts. A layer is made of a descriptor and its bytes if and only if media types, digest,
-//! payload, image and signature annotation are as they have to be and what a log is said to have promised is signed;
-//! and else the first broken rule is the error. The layers of a manifest are those that are made of each descriptor
-//! with the first layer of its digest, in the order of the descriptors. A layer is signed by a key if and only if the
-//! checker accepts its signature over its raw data. **A layer ties its certificate, what a log promised and its
-//! signature together by nothing**: only [`SignatureLayer::is_signed_by_key`] checks a signature over the layer.
+//! payload, image and signature annotation are as they have to be and the claimed promise of a log is signed; and else
+//! the first broken rule is the error. The layers of a manifest are those that are made of each descriptor with the
+//! first layer of its digest, in the order of the descriptors. A layer is signed by a key if and only if the checker
+//! accepts its signature over its raw data. **A layer ties its certificate, what a log promised and its signature
+//! together by nothing**: only [`SignatureLayer::is_signed_by_key`] checks a signature over the layer.
 #![tactic(auto)]
 
 mod bundle_content;

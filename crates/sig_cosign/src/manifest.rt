@@ -25,9 +25,9 @@ pub type Layers = OwnedList<SignatureLayer>;
 /// `source_image_digest`, at `now` in seconds since 1970. To each descriptor belongs the first of the fetched layers
 /// whose bytes have its digest, `sha256:` and lower-case hexadecimal digits; what [`SignatureLayer::new`] makes of both
 /// is in the list, unless it fails. A descriptor without such a layer is left out, and so is one from which no layer is
-/// made, whatever the error: who has to know it calls [`SignatureLayer::new`]. The layers are found by an index, and
-/// each descriptor costs what [`SignatureLayer::new`] costs: a layer that many descriptors name is read, and copied,
-/// for each of them.
+/// made, whatever the error: a caller that has to know it calls [`SignatureLayer::new`]. The layers are found by an
+/// index, and each descriptor costs what [`SignatureLayer::new`] costs: a layer that many descriptors name is read, and
+/// copied, for each of them.
 ///
 /// Errors:
 /// - `SigstoreNoVerifiedLayer` if and only if no layer is made, so also if there are no descriptors;

@@ -231,7 +231,7 @@ fn promised<C: SignatureChecker>(
     Ok(Some(BundleContent::RekorBundle(bundle)))
 }
 
-/// The layer of these parts, with who signed.
+/// The layer of these parts, with the signer.
 fn with_signer<C: SignatureChecker>(
     alloc: Global,
     descriptor: &OciDescriptor,

@@ -2,14 +2,14 @@
 
 use sig_base::{Bytes, Text, TextMap};
 
-/// A layer of a manifest: what it is said to be, and what is noted beside it.
+/// A layer of a manifest: its claimed digest and media type, and its annotations.
 #[derive(Drop)]
 pub struct OciDescriptor {
     /// What kind of bytes the layer is.
     pub media_type: Text,
     /// The digest of its bytes, such as `sha256:` and 64 hexadecimal digits.
     pub digest: Text,
-    /// What is noted beside it, by name.
+    /// Its annotations, by name.
     pub annotations: TextMap,
     /// The certificate (DER) of the annotation `dev.sigstore.cosign/certificate`, which is PEM and is not read here.
     pub certificate_der: Option<Bytes>,

@@ -92,7 +92,7 @@ impl DemoLog {
     }
 }
 
-/// The name of the scheme under which the log is said to sign.
+/// The name of the scheme under which the log claims to sign.
 const SCHEME: &str = "ECDSA_P256_SHA256_ASN1";
 
 /// The made-up key of the log.

@@ -52,7 +52,7 @@ pub fn read_algorithm(reader: Reader<'_>) -> Option<(AlgorithmPlaces, Reader<'_>
     // An algorithm at the front is returned.
     ensures only { (a : Algorithm) (rest : List ℕ) → IsFirstAlgorithm a rest (left reader.entry)
         → option_map (algorithm_read reader.entry.bytes.now) result ≡ Some (a, rest) }
-    // There is none at the front.
+    // No algorithm is at the front.
     ensures none { (result ≡ None) ↔ ((a : Algorithm) (rest : List ℕ)
         → ¬ IsFirstAlgorithm a rest (left reader.entry)) }
     // The result is that of the plain reader.
@@ -130,7 +130,7 @@ pub fn read_key_info(reader: Reader<'_>) -> Option<(KeyInfoPlaces, Reader<'_>)>
     // A SubjectPublicKeyInfo at the front is returned.
     ensures only { (k : KeyInfo) (rest : List ℕ) → IsFirstKeyInfo k rest (left reader.entry)
         → option_map (key_info_read reader.entry.bytes.now) result ≡ Some (k, rest) }
-    // There is none at the front.
+    // No SubjectPublicKeyInfo is at the front.
     ensures none { (result ≡ None) ↔ ((k : KeyInfo) (rest : List ℕ)
         → ¬ IsFirstKeyInfo k rest (left reader.entry)) }
     // The result is that of the plain reader.

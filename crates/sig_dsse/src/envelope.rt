@@ -19,6 +19,6 @@ pub struct DsseEnvelope {
 pub struct DsseSignature {
     /// The signature over the pre-authentication encoding, not its base64.
     pub sig: Bytes,
-    /// A hint at the key that signed; nobody has to believe it.
+    /// A hint at the key that signed; it need not be true.
     pub keyid: Text,
 }

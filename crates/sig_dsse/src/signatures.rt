@@ -55,7 +55,7 @@ impl SparseSignature {
         })
     }
 
-    /// The signature, if one without parts is at hand.
+    /// Returns the signature; `empty` is one without parts.
     pub fn get<'a>(&'a self, empty: &'a DsseSignature) -> &'a DsseSignature
         requires { empty.now ≡ no_parts }
         ensures { result.now ≡ self.now }

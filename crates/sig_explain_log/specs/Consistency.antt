@@ -13,7 +13,7 @@ use Rattle.sig_explain_log.specs.Head.{head_mismatch_rows, head_note_row, head_u
 use Rattle.sig_explain_log.specs.Refusals.{consistency_rows}
 use Rattle.sig_explain_log.specs.Trees.{head_row}
 
--- the tree of now, and the older one
+-- the new tree, and the older one
 
 abbrev pub new_row : ConsistencyRequest → TreeMember
 new_row request = head_row (codes "new") request.tree_size request.root_hash

@@ -30,7 +30,7 @@ use std::alloc::Global;
 /// - `checkpoint`: `cause`, a list of `ParseCheckpointError` and the rule that the text breaks first;
 /// - `note-key`: as [`with_unsigned`](crate::with_unsigned);
 /// - `note-match`: `cause`, a list of `ConsistencyProofError` and the name of the error, and what the error keeps;
-///   `new`, the `treeSize` and the `rootHash` of the tree of now; and `note`, its `origin`, `treeSize` and `rootHash`;
+///   `new`, the `treeSize` and the `rootHash` of the new tree; and `note`, its `origin`, `treeSize` and `rootHash`;
 /// - `consistency`: likewise, and `old`, the `treeSize` and the `rootHash` of the older tree, which replace the sizes
 ///   that an error keeps as `new` and `old`.
 ///
@@ -75,7 +75,7 @@ fn with_trees(
     with_new(object, alloc, request)
 }
 
-/// The object with the tree of now and the note.
+/// The object with the new tree and the note.
 fn with_new(
     object: Object,
     alloc: Global,

@@ -23,7 +23,7 @@ use Rattle.sig_x509.specs.declared.issuer.Issuer.{Issuer}
 use Rattle.sig_explain_verify.specs.Inputs.{Inputs}
 use Rattle.sig_explain_verify.specs.Parts.{AreAuthorities, IsCheckedOf, root_in}
 
--- the signatures of certificates that are taken for genuine
+-- the signatures of certificates that are accepted as genuine
 abbrev pub accepts_of : List AcceptedRow → Accepts
 accepts_of rows issuer algorithm tbs signature = accepted rows Certificate algorithm issuer tbs signature
 

@@ -17,6 +17,6 @@ pub struct VerifyInputs<'a> {
     pub bundle: &'a [u8],
     /// What the certificate has to say of the signer.
     pub policy: &'a RequestPolicy,
-    /// The signatures that are taken for genuine.
+    /// The signatures that are accepted as genuine.
     pub accepted: &'a TableChecker,
 }

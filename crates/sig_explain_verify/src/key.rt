@@ -16,7 +16,7 @@ pub(crate) struct AskedKey<'a> {
     pub(crate) spki: &'a [u8],
 }
 
-/// The key of the log of this id; `None` if there is none with a scheme. Fails only if out of memory.
+/// The key of the log of this id; `None` if it is absent or does not have a scheme. Fails only if out of memory.
 pub(crate) fn log_key<'a>(
     alloc: Global,
     keys: &'a KeyMap,

@@ -1,4 +1,4 @@
-//! `NamedPolicies`: the policies that artifacts name, each made ready once.
+//! `NamedPolicies`: the policies that artifacts name, each prepared once.
 ghost use Rattle.std.specs.Prelude.{◌≡◌, IsSome, OnOk};
 ghost use Rattle.sig_base.specs.ByText.{text_lookup};
 ghost use Rattle.sig_gate.specs.NamedPolicies.{AreHeldPolicies};

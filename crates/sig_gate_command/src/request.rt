@@ -12,13 +12,13 @@ use std::alloc::Global;
 pub struct GateRequest {
     /// The manifest, except for `accepted`.
     pub manifest: Manifest,
-    /// The signatures that are taken for genuine.
+    /// The signatures that are accepted as genuine.
     pub accepted: TableChecker,
 }
 
 impl GateRequest {
-    /// Reads a request; `None` if and only if the text has more than 2^24 bytes, or is not a manifest. Fails only if out
-    /// of memory.
+    /// Reads a request; `None` if and only if the text has more than 2^24 bytes, or is not a manifest. Fails only if
+    /// out of memory.
     #[tactic(auto, using(crate::proofs::Requests::requests))]
     pub fn read(alloc: Global, text: &[u8]) -> Result<Option<GateRequest>, OutOfMemory>
         ensures { IfOk result (IsReadFrom text.now) }

@@ -17,17 +17,17 @@ use sig_json::{BorrowedDocument, Json, JsonError, Scratch};
 use sig_request::RowReader;
 use std::alloc::Global;
 
-/// The names of the members that a manifest has; `accepted` is read beside them, row by row. A member of another name is
-/// ignored: no tree is made of it.
+/// The names of the members that a manifest has; `accepted` is read beside them, row by row. A member of another name
+/// is ignored: no tree is made of it.
 const MEMBERS: [&str; 4] = ["now", "roots", "policies", "artifacts"];
 
-/// Reads a manifest, and the signatures that it takes for genuine. Errors, the first that applies:
+/// Reads a manifest, and the signatures that it accepts as genuine. Errors, the first that applies:
 ///
 /// - `NotJson`: the text has no reading;
 /// - `Float`: its tree holds a number with a point or an exponent, `-0`, or an integer outside -2^63 to 2^64 - 1;
 /// - `Member`: a member is not what it has to be;
-/// - `UnknownRoot`, `UnknownPolicy` with the index of the first artifact that names a trusted root, or else a policy, that
-///   is not there;
+/// - `UnknownRoot`, `UnknownPolicy` with the index of the first artifact that names a trusted root, or else a policy,
+///   that is not there;
 /// - `OutOfMemory`.
 #[tactic(auto, using(crate::proofs::Refusals::refusals))]
 pub fn read_manifest(alloc: Global, text: &[u8]) -> Result<(Manifest, TableChecker), ManifestError>
@@ -42,7 +42,7 @@ pub fn read_manifest(alloc: Global, text: &[u8]) -> Result<(Manifest, TableCheck
     read(alloc, text)
 }
 
-/// The manifest of a text, with the signatures that it takes for genuine.
+/// The manifest of a text, with the signatures that it accepts as genuine.
 fn read(alloc: Global, text: &[u8]) -> Result<(Manifest, TableChecker), ManifestError>
     ensures { Answers ManifestError.OutOfMemory parts_view result (manifest_in text.now) }
 {

@@ -64,7 +64,7 @@ from_canonical (Err error) = Err (of_canonical error)
 abbrev pub payload_text : Payload → Result (List ℕ) SigstoreError
 payload_text payload = from_canonical (canonical_of (payload_tree payload))
 
--- ---- who signed it
+-- ---- its signer
 
 abbrev pub found_key : List ℕ → Option CosignVerificationKey → Result CosignVerificationKey SigstoreError
 found_key id None = Err (sigstore.RekorPublicKeyNotFoundError id)

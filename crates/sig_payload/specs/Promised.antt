@@ -34,7 +34,7 @@ promised_text p =
     ++ (codes ",\"logID\":" ++ (canon_string p.log_id ++ (codes ",\"logIndex\":" ++ (signed_decimal p.log_index
     ++ codes "}")))))))
 
--- ---- who signed it
+-- ---- its signer
 
 -- there is a key of the payload's log, and this holds of it
 abbrev pub OfKey : Keys → Payload → (CosignVerificationKey → Type 0) → Type 0

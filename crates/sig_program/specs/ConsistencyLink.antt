@@ -12,7 +12,7 @@ use Rattle.sig_program.specs.Verdict.{IsLinkVerdict}
 abbrev pub consistency_links : List Link
 consistency_links = Request ∷ Checkpoint ∷ NoteKey ∷ NoteMatch ∷ Consistency ∷ []
 
--- the hashes show that the tree of now has the tree of the old size and root as its first leaves
+-- the hashes show that the new tree has the tree of the old size and root as its first leaves
 abbrev pub IsGrown : ConsistencyRequest → Type 0
 IsGrown request =
     IsConsistent request.old_size request.tree_size request.hashes request.old_root request.root_hash

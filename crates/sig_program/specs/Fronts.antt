@@ -1,4 +1,4 @@
--- What the second lines of `consistency` mean, without a word of proofs: laws above `IsFrontLineOf`.
+-- What the second lines of `consistency` mean, without proofs: laws above `IsFrontLineOf`.
 use Rattle.std.specs.Prelude.{◌≡◌, ◌≤◌, ◌⊎◌, ℕ, List, length, take}
 use Rattle.sig_merkle.specs.Root.{root}
 use Rattle.sig_program.specs.ConsistencyLink.{IsGrown}
@@ -20,7 +20,7 @@ IsFrontOfFront older later =
     (entries : List (List ℕ)) × (length entries ≡ later.old_size) × (later.old_root ≡ root entries)
     × (older.old_root ≡ root (take older.old_size entries))
 
--- Two older trees of one tree of now, beside one list of it: one is a front of the other, or a line shows a collision.
+-- Two older trees of one new tree, beside one list of it: one is a front of the other, or a line shows a collision.
 abbrev pub FrontsAgree : Type 0
 FrontsAgree =
     (older later : ConsistencyRequest) (entries : List (List ℕ)) (older_line later_line : List ℕ)

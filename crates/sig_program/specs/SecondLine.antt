@@ -41,7 +41,7 @@ abbrev pub IsSecondLine : Option (List (List ℕ)) → List ℕ → InclusionPro
 IsSecondLine None body proof line = line ≡ []
 IsSecondLine (Some entries) body proof line = IsLineOf entries body proof line
 
--- the entries are those of the tree of now
+-- the entries are those of the new tree
 abbrev pub AreOfNow : List (List ℕ) → ConsistencyRequest → Type 0
 AreOfNow entries request = AreOfTree entries request.tree_size request.root_hash
 
@@ -49,7 +49,7 @@ AreOfNow entries request = AreOfTree entries request.tree_size request.root_hash
 abbrev pub IsFront : List (List ℕ) → ConsistencyRequest → Type 0
 IsFront entries request = request.old_root ≡ root (take request.old_size entries)
 
--- The line of a list beside a consistency proof: it is not that of the tree of now; or it is, and the old root is that
+-- The line of a list beside a consistency proof: it is not that of the new tree; or it is, and the old root is that
 -- of its first entries; or it is, the old root is not, and two different byte strings of equal SHA-256 are shown.
 abbrev pub IsFrontLineOf : List (List ℕ) → ConsistencyRequest → List ℕ → Type 0
 IsFrontLineOf entries request line =

@@ -17,8 +17,8 @@ use sig_reply::Reply;
 use std::alloc::Global;
 
 /// Returns the request of `log` for the middle entry of a generated log of `count` entries, from 1 to 4096. Its entries
-/// are `L123456`, `L123457` and so on, and its log is `demo`, whose signature is taken for genuine. Every link of `log`
-/// holds of it. Fails only if out of memory.
+/// are `L123456`, `L123457` and so on, and its log is `demo`, whose signature is accepted as genuine. Every link of
+/// `log` holds of it. Fails only if out of memory.
 pub fn demo_request(alloc: Global, count: u64) -> Result<Bytes, OutOfMemory>
     requires some { 1 ≤ count }
     requires most { count ≤ 4096 }

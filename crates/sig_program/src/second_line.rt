@@ -85,7 +85,7 @@ fn are_of_proof(entries: &Entries, proof: &InclusionProof) -> bool
 
 /// Returns the second line of a reply of `consistency`, empty if the request gives no entries:
 ///
-/// - `other list` if the entries are not those of the tree of now: their number is not its size, or their RFC 6962 root
+/// - `other list` if the entries are not those of the new tree: their number is not its size, or their RFC 6962 root
 ///   is not its root;
 /// - `prefix M` if they are, and the old root is that of the first M of them, M being the old size;
 /// - `collision HEX HEX` if they are, and it is not: two different byte strings of equal SHA-256, in lower case.

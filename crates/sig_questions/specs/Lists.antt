@@ -37,7 +37,7 @@ use Rattle.sig_x509.specs.Possible.{the_leaf}
 use Rattle.sig_questions.specs.Asked.{signature_row}
 use Rattle.sig_questions.specs.Rows.{message_row, point_row, prehash_row}
 
--- ---- whose signatures, and under whose keys
+-- ---- the signers, and the keys
 
 -- a trust anchor (true), or a further certificate
 abbrev pub Side : Type 0

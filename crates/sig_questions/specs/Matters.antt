@@ -1,4 +1,4 @@
--- Each question matters: some link depends on it. For the signature of a certificate it is said exactly when `issuer`
+-- Each question matters: some link depends on it. For the signature of a certificate this says exactly when `issuer`
 -- does.
 use Rattle.std.specs.Prelude.{◌≡◌, ◌⊎◌, ◌↔◌, List, [], ◌∷◌, ◌++◌, Contains}
 use Rattle.sig_base.specs.Checker.{accepted}

@@ -1,5 +1,5 @@
--- *Order of the questions*: by the links that ask for them, and for one link by the certificates that were signed and by
--- those that signed, or by the signatures of the note.
+-- *Order of the questions*: by the links that ask for them, and for one link by the certificates that were signed and
+-- by those that signed, or by the signatures of the note.
 use Rattle.std.specs.Prelude.{◌≡◌, ◌⊎◌, ◌↔◌, ℕ, ◌<◌, List, ◌∷◌, ◌++◌, map, Contains, Option, Some, None, slice_get}
 use Rattle.sig_base.specs.declared.checker.AcceptedRow.{AcceptedRow}
 use Rattle.sig_bundle.specs.declared.material.TransparencyLogEntry.{TransparencyLogEntry}
@@ -17,7 +17,7 @@ use Rattle.sig_questions.specs.Asked.{IsContentRow, IsPointRowUnder, IsPromiseRo
 use Rattle.sig_questions.specs.Lists.{Pair, Side, pairs, signers}
 use Rattle.sig_questions.specs.Rows.{message_row}
 
--- ---- who asks for a signature
+-- ---- which link asks for a signature
 
 -- the signature is of a path, and of this kind
 abbrev pub IsStepOf : Pair → List Cert → Cert → Type 0
@@ -44,9 +44,9 @@ abbrev pub IsNoteRowAt : ℕ → LogKeys → TransparencyLogEntry → AcceptedRo
 IsNoteRowAt place keys e row = OfLogKey keys e (λ key. OfCheckpoint e (λ p n. (s : CheckpointSignature)
     × (slice_get n.signatures place ≡ Some s) × (row ≡ message_row key.0 key.1 (note_text n.note) s.raw)))
 
--- the link asks for it: `issuer` for the signature of the certificates at this place, `sct` for the issuer at this place,
--- `note-key` for the signature of the note at this place, and `signature` and `promise` for one signature, whose place
--- is 0
+-- the link asks for it: `issuer` for the signature of the certificates at this place, `sct` for the issuer at this
+-- place, `note-key` for the signature of the note at this place, and `signature` and `promise` for one signature, whose
+-- place is 0
 abbrev pub IsAskedAt : Inputs → Link → ℕ → AcceptedRow → Type 0
 IsAskedAt i link place row =
     ((link ≡ Issuer) × OfChecked i (λ trust c. IsCertificateRowAt place trust c row))
@@ -74,8 +74,8 @@ pub record IsEarlier (one other : Link) : Type 0 where
 abbrev pub IsBefore : Asking → Asking → Type 0
 IsBefore one other = IsEarlier one.link other.link ⊎ ((one.link ≡ other.link) × (one.place < other.place))
 
--- The rows with who asks for each: of two positions in the list the smaller is of an earlier link, or of the same link
--- and an earlier place; and all that is asked for is there, and nothing else. So there is one such list.
+-- The rows with the link that asks for each: the smaller of two positions in the list is that of an earlier link, or of
+-- the same link and an earlier place; and all that is asked for is there, and nothing else. So there is one such list.
 pub record AreInOrder (Asks : Link → ℕ → AcceptedRow → Type 0) (rows : List AcceptedRow) : Type 0 where
   pub askings : List Asking
   pub listed : map (λ asking. asking.row) askings ≡ rows

@@ -46,7 +46,7 @@ row_of_parts parts = record {
 abbrev pub row_under : PossibleSigners → Bor Cert → List AcceptedRow
 row_under y x = signature_row y.certificate.now x.now ∷ []
 
--- under the keys of all who may have signed
+-- under the keys of all that may have signed
 abbrev pub rows_of_signed : PossibleSigners → List AcceptedRow
 rows_of_signed y = flat_map (row_under y) y.signers.items
 

@@ -11,8 +11,8 @@ use sig_certificate::Certificate;
 use sig_x509::{PossiblePaths, PossibleSigners};
 use std::alloc::Global;
 
-/// The rows of the leaf's signature, and then of those of the intermediates in order, each under the keys of all who may
-/// have signed.
+/// The rows of the leaf's signature, and then of those of the intermediates in order, each under the keys of all who
+/// may have signed.
 pub(crate) fn push_certificates(
     rows: &mut Rows,
     alloc: Global,
@@ -24,7 +24,7 @@ pub(crate) fn push_certificates(
     push_further(rows, alloc, &paths.further)
 }
 
-/// The rows of a signature under the keys of all who may have signed, in order.
+/// The rows of a signature under the keys of all that may have signed, in order.
 fn push_signed(
     rows: &mut Rows,
     alloc: Global,

@@ -14,7 +14,7 @@ use sig_timestamp::{
 use sig_x509::PossibleSigners;
 use std::alloc::Global;
 
-/// The rows under the keys of all who may have signed the leaf, in order.
+/// The rows under the keys of all that may have signed the leaf, in order.
 pub(crate) fn push_points(
     rows: &mut Rows,
     alloc: Global,

@@ -87,7 +87,7 @@ placed_of d = do
   verification ← required verification_of (codes "verification") d
   Some (record { log_index = log_index; verification = verification })
 
--- what is said of an entry beside the log
+-- what Rekor returns for an entry beside the log
 unfoldable pub beside_of : Data → Option Beside
 beside_of d = do
   uuid ← optional text_of (codes "uuid") d

@@ -14,7 +14,7 @@ use std::alloc::Global;
 pub struct BodyContent {
     /// The version of the form.
     pub api_version: Text,
-    /// What is said, in any form.
+    /// What the entry says, in any form.
     pub spec: Document,
 }
 

@@ -124,14 +124,14 @@ impl ElementReader for PlacedReader {
     }
 }
 
-/// What is said of an entry beside the log.
+/// What Rekor returns for an entry beside the log.
 #[derive(Drop)]
 struct Beside {
     uuid: Option<Text>,
     attestation: Option<Attestation>,
 }
 
-/// Reads what is said of an entry beside the log.
+/// Reads what Rekor returns for an entry beside the log.
 enum BesideReader {}
 
 impl ElementReader for BesideReader {

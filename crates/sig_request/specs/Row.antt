@@ -1,4 +1,4 @@
--- A row of `accepted`: one signature that is taken for genuine.
+-- A row of `accepted`: one signature that is accepted as genuine.
 use Rattle.std.specs.Prelude.{ℕ, List, [], codes, Option, Some, None, if◌then◌else◌, ⊤}
 use Rattle.std.specs.Str.{bytes_eq}
 use Rattle.sig_base.specs.OptionSteps.{◌>>=◌}

@@ -55,7 +55,7 @@ pub struct AuditRequest {
     pub scheme: SigningScheme,
     /// The log's key (DER).
     pub key: Bytes,
-    /// The signatures that are taken for genuine.
+    /// The signatures that are accepted as genuine.
     pub accepted: TableChecker,
     /// All entries of the log as the last head has it, if they are given.
     pub entries: Option<Entries>,

@@ -38,9 +38,9 @@ pub struct ConsistencyRequest {
     pub root_hash: [u8; 32],
     /// The consistency proof, the smallest tree's hash first.
     pub hashes: Hashes,
-    /// The checkpoint that is to vouch for the tree of now.
+    /// The checkpoint that is to vouch for the new tree.
     pub head: ClaimedHead,
-    /// All entries of the log of now, if they are given.
+    /// All entries of the new tree, if they are given.
     pub entries: Option<Entries>,
 }
 

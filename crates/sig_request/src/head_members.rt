@@ -18,7 +18,7 @@ pub struct ClaimedHead {
     pub scheme: SigningScheme,
     /// The log's key (DER).
     pub key: Bytes,
-    /// The signatures that are taken for genuine.
+    /// The signatures that are accepted as genuine.
     pub accepted: TableChecker,
 }
 

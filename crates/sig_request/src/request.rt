@@ -38,7 +38,7 @@ use std::alloc::Global;
 /// The members of a request of `log`.
 #[derive(Drop)]
 pub struct LogRequest {
-    /// The entry that is said to be logged.
+    /// The entry that is claimed to be logged.
     pub entry: Bytes,
     /// The proof that it is at an index of the log's tree; the tree's checkpoint is in `head`.
     pub proof: InclusionProof,

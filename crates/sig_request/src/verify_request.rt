@@ -36,7 +36,7 @@ pub struct VerifyRequest {
     pub digest: ArtifactDigest,
     /// What has to hold of the signing certificate.
     pub policy: RequestPolicy,
-    /// The signatures that are taken for genuine.
+    /// The signatures that are accepted as genuine.
     pub accepted: TableChecker,
     /// All entries of the log, if they are given.
     pub entries: Option<Entries>,

@@ -51,7 +51,7 @@ impl SigstoreTrustRoot {
 
     /// Returns the trusted root of a client's configuration (Sigstore trust root format, ClientTrustConfig), a JSON
     /// object with the member `trustedRoot`, which is read as `read_trusted_root` reads it. The other members of the
-    /// configuration are ignored, and no tree is made of them. Nothing is checked of who made the text. Errors, each a
+    /// configuration are ignored, and no tree is made of them. It does not check who made the text. Errors, each a
     /// `SigstorePKIFileMalformedError`, unless memory runs out:
     ///
     /// - of `NotReadable` if and only if the text is not such a configuration: it is not JSON without floats, no

@@ -10,7 +10,7 @@ use Rattle.sig_der.specs.ObjectIdentifiers.{subject_alternative_name}
 use Rattle.sig_signer.specs.declared.subject.CertificateSubject.{CertificateSubject}
 use Rattle.sig_signer.specs.declared.subject.CertificateSubject.TheVariants.{Email as ByEmail, Uri as ByUri}
 
--- exactly one extension has alternative names, and these are they
+-- exactly one extension has alternative names, and these are the names
 pub record HasNames (c : Cert) (names : List Name) : Type 0 where
   pub extension : Extension
   pub one : with_oid subject_alternative_name c.extensions ≡ extension ∷ []

@@ -1,4 +1,4 @@
--- *Subject*: whom a certificate names: the first email or URI of its subject alternative name (RFC 5280 section
+-- *Subject*: what a certificate names: the first email or URI of its subject alternative name (RFC 5280 section
 -- 4.2.1.6).
 use Rattle.std.specs.Prelude.{List, [], ◌∷◌, Option, Some, None, option_map, Result, Err}
 use Rattle.std.specs.Option.{ok_or}

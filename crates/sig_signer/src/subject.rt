@@ -1,4 +1,4 @@
-//! `CertificateSubject`: whom a certificate names.
+//! `CertificateSubject`: the subject that a certificate names.
 ghost use Rattle.std.specs.Prelude.{◌≡◌, ◌↔◌, IsTrue, Ok, Err, IfOk, option_map};
 ghost use Rattle.std.specs.Option.{ok_or};
 ghost use Rattle.sig_base.specs.Answers.{Answers, ComesWhere};

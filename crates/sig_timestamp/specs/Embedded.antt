@@ -1,4 +1,4 @@
--- The SCT that a certificate carries, made ready to be checked: RFC 6962 sections 3.2 and 3.3.
+-- The SCT that a certificate carries, prepared for its check: RFC 6962 sections 3.2 and 3.3.
 use Rattle.std.specs.Prelude.{◌≡◌, ◌≢◌, ◌⊎◌, ℕ, length, Bool, false, List, [], ◌∷◌, Option, Some, None, option_map}
 use Rattle.std.specs.Prelude.{slice_get, unwrap_or, Result, Ok, Err, is_some, if◌then◌else◌}
 use Rattle.sig_base.specs.Answers.{Answers}

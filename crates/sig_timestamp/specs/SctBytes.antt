@@ -1,5 +1,5 @@
 -- *SCT signed bytes*: RFC 6962 section 3.2, the bytes that the signature of an SCT is over, for an entry of the type
--- precert_entry; and what is said of an SCT.
+-- precert_entry; and what an SCT says.
 use Rattle.std.specs.Prelude.{ℕ, ◌-◌, ◌^◌, Bool, List, ◌∷◌, ◌++◌, length, Result, Ok, Err, nat_lt, if◌then◌else◌}
 use Rattle.sig_base.specs.Sha256.{sha256}
 use Rattle.sig_timestamp.specs.declared.signed.DigitallySigned.{DigitallySigned}

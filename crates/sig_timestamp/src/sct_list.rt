@@ -88,7 +88,7 @@ pub(crate) fn list_in(value: &[u8]) -> Option<&[u8]>
 }
 
 /// Returns the only vector of a list of vectors. Fails with `LeafSCTMalformed` if the bytes are not such a list, with
-/// `LeafSCTMissing` if it has none or several.
+/// `LeafSCTMissing` if it does not have exactly one.
 pub(crate) fn only_one(list: &[u8]) -> Result<&[u8], CertificateErrorKind>
     ensures { part_now result ≡ only_one (many_at vector_at list.now) }
 {

@@ -17,6 +17,6 @@ claims_of d = do
   email ← required_text (codes "email") d
   Some (record { aud = aud; exp = exp; nbf = nbf; email = email })
 
--- the claims of a text, or why it has none
+-- the claims of a text, or why it does not have any
 abbrev pub claims_in : List ℕ → Result Claims JsonError
 claims_in = record_in claims_of

@@ -17,7 +17,7 @@ use sig_json::{
 };
 use std::alloc::Global;
 
-/// What a token says of its bearer. Nothing is checked of who says it.
+/// What a token says of its bearer. It is not checked who says it.
 #[derive(Drop)]
 pub struct Claims {
     /// Whom the token is for: the audience (RFC 7519 section 4.1.3).
@@ -26,7 +26,7 @@ pub struct Claims {
     pub exp: i64,
     /// The second since 1970 before which the token does not count (section 4.1.5).
     pub nbf: Option<i64>,
-    /// The address of whom the token is about.
+    /// The address of the token's subject.
     pub email: Text,
 }
 

@@ -1,4 +1,4 @@
-//! `IdentityToken`: a token that says who signs.
+//! `IdentityToken`: a token that names a signer.
 ghost use Rattle.std.specs.Prelude.{◌≡◌, ◌↔◌, Some, Ok, Err, IfOk, IsTrue};
 ghost use Rattle.sig_base.specs.Answers.{Answers, ComesWhere, UnlessMemory};
 ghost use Rattle.sig_base.specs.declared.error.SigstoreError.TheVariants.{OutOfMemory as Memory};
@@ -18,7 +18,7 @@ use std::alloc::Global;
 use std::fmt;
 use std::marker::Model;
 
-/// A token that says who signs. Its signature is not checked, so nothing that it says is trusted. Contracts see its
+/// A token that names a signer. Its signature is not checked, so nothing that it says is trusted. Contracts see its
 /// text and its claims.
 #[derive(Drop)]
 pub struct IdentityToken {

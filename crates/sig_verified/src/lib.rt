@@ -5,9 +5,9 @@
 //!  "sct":{..},"tlogEntry":{..}}
 //! ```
 //!
-//! The layer above uses one fact. [`verified`] makes the object of a bundle, of who issued its certificate, of the
+//! The layer above uses one fact. [`verified`] makes the object of a bundle, of the issuer of its certificate, of the
 //! proof of its log entry, of the digest and of the policy, a total function of these; that they were verified is the
-//! caller's word. Nobody needs more of the bundle but, of an envelope, its payload, whose SHA-256 is shown.
+//! caller's word. Of the bundle itself only the payload of an envelope is needed, whose SHA-256 is shown.
 #![tactic(auto)]
 
 mod certificate;

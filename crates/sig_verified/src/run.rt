@@ -63,7 +63,7 @@ pub fn verified(alloc: Global, run: &VerifiedRun<'_>) -> Result<Object, OutOfMem
     with_policy_rules(object, alloc, "policy", run.policy, certificate)
 }
 
-/// The object with who issued a certificate as a member.
+/// The object with the issuer of a certificate as a member.
 fn with_issuer(
     object: Object,
     alloc: Global,

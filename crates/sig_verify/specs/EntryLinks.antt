@@ -99,7 +99,7 @@ abbrev pub HasKeyOfBytes : LogKeys → TransparencyLogEntry → Type 0
 HasKeyOfBytes keys e =
     (id key : List ℕ) → e.log_id ≡ Some id → text_lookup (encode_lower id) keys ≡ Some key → AreBytes key
 
--- the parts that a link reads as bytes are such
+-- the parts that a link reads as bytes are bytes
 pub record IsOfBytes (keys : LogKeys) (e : TransparencyLogEntry) : Type 0 where
   pub body : AreBytes e.canonicalized_body
   pub id : AreBytes (unwrap_or e.log_id [])

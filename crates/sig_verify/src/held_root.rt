@@ -13,8 +13,8 @@ use sig_root::laws::are_log_key_bytes;
 use sig_root::{SigstoreTrustRoot, TrustRoot, read_trusted_root};
 use std::alloc::Global;
 
-/// What a trusted root gives at a time: what bundles and log entries are verified against, or why there is none. It is
-/// read and made once, by [`HeldRoot::read`] or [`HeldRoot::new`], for all bundles that [`HeldRoot::verify`] checks.
+/// What a trusted root gives at a time: what bundles and log entries are verified against, or why it gives nothing. It
+/// is read and made once, by [`HeldRoot::read`] or [`HeldRoot::new`], for all bundles that [`HeldRoot::verify`] checks.
 #[derive(Drop)]
 pub struct HeldRoot {
     pub(crate) trust: Result<Trust, RootFault>,

@@ -19,7 +19,7 @@ pub enum Link {
     Ctfe,
     /// The bundle has verification material that can be read.
     Material,
-    /// Its certificates are such.
+    /// Each of its certificates is well-formed.
     Certificate,
     /// The first of them may sign.
     Leaf,

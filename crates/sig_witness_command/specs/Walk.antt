@@ -11,7 +11,7 @@ use Rattle.sig_witness_command.specs.Start.{Logs}
 use Rattle.sig_witness_command.specs.declared.outcome.Outcome.{Outcome}
 use Rattle.sig_witness_command.specs.declared.request.UpdateText.{UpdateText}
 
--- what a table takes for genuine: schemes, keys, messages and signatures
+-- what a table accepts as genuine: schemes, keys, messages and signatures
 abbrev pub takes : List AcceptedRow → VerifyScheme → List ℕ → List ℕ → List ℕ → Bool
 takes rows scheme key message signature = accepted rows Message (name_of scheme) key message signature
 

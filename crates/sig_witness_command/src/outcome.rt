@@ -1,4 +1,4 @@
-//! `Outcome`: what became of an update, and the line that says so.
+//! `Outcome`: the outcome of an update, and its line.
 //!
 //! ```text
 //! accepted 2

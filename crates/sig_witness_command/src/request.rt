@@ -63,7 +63,7 @@ pub struct WitnessRequest {
     pub origins: OwnedList<OriginKey>,
     /// The updates, in order: at most 4,096.
     pub updates: OwnedList<UpdateText>,
-    /// The signatures that are taken for genuine.
+    /// The signatures that are accepted as genuine.
     pub accepted: TableChecker,
 }
 

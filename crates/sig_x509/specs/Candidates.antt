@@ -53,7 +53,7 @@ pub record IsIndexOf (listed : List (Option Cert)) (count : ℕ) (last : BTreeMa
   pub before : (k : ℕ) (x : Cert) → k < count → slice_get listed k ≡ Some (Some x)
       → slice_get earlier k ≡ Some (last_named listed k x.subject)
 
--- ---- who signed
+-- ---- the signers
 
 -- the candidate at the index signed c
 abbrev pub is_signer : Accepts → Cert → List (Option Cert) → ℕ → Bool

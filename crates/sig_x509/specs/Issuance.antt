@@ -52,7 +52,7 @@ is_no_authority (Ok (Some b)) = not b.1.ca
 abbrev pub is_profiled : Cert → Bool
 is_profiled c = is_fit c && is_no_authority (constraints c)
 
--- ---- who issued it
+-- ---- the issuer
 
 -- the TBSCertificates and signatures that a checker accepts under an SPKI and an algorithm
 abbrev pub Accepts : Type 0

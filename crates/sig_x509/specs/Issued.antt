@@ -1,4 +1,4 @@
--- *Issuance* as relations: what holds of a certificate that may be issued, of who signed it, and of the trust anchor
+-- *Issuance* as relations: what holds of a certificate that may be issued, of its signer, and of the trust anchor
 -- that issued it. RFC 5280 sections 4.1, 4.2 and 6.1, in the profile of Sigstore. `Issuance` says how they are found.
 use Rattle.std.specs.Prelude.{◌≡◌, ◌⊎◌, ℕ, ◌<◌, ℤ, ◌≤ℤ◌, List, [], Bool, true, false, Some, None, Ok}
 use Rattle.std.specs.Prelude.{slice_get}
@@ -41,7 +41,7 @@ pub record HasProfile (c : Cert) : Type 0 where
   pub fit : IsFit c
   pub no_authority : IsNoAuthority c
 
--- ---- who issued it
+-- ---- the issuer
 
 -- *Signed*: the issuer is the subject of x byte for byte, and the signature is genuine under the key of x (section
 -- 6.1.3)

@@ -97,7 +97,7 @@ pub record IsPart (anchors : List Cert) (order : List ℕ) (signer : Signer) (st
   pub ordered : start ≤ end
   pub within : end ≤ length order
 
--- ---- who has a key
+-- ---- the anchors that have a key
 
 -- the trust anchor has the subject and the SPKI
 abbrev pub has_key : List ℕ → List ℕ → Cert → Bool

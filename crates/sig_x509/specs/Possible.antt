@@ -28,7 +28,7 @@ any_below (suc n) p = any_below n p || p n
 abbrev pub any_both : List Bool → List Bool → Bool
 any_both one other = any_below (length one) (λ k. bit one k && bit other k)
 
--- ---- who can be where in a path
+-- ---- what can be where in a path
 
 -- the names say that x signed y
 abbrev pub is_named : Cert → Cert → Bool
@@ -102,9 +102,9 @@ meets_at next trusted up others = bit next others && (trusted || bit up (6 - oth
 abbrev pub may_sign : SignedOne → SignerOne → Bool
 may_sign y x = is_named y.certificate x.certificate && any_below count (meets_at y.next x.trusted x.up)
 
--- ---- those under whose keys
+-- ---- the signers whose keys may count
 
--- a certificate, and those under whose keys its signature may be
+-- a certificate, and the signers under whose keys its signature may be
 pub record SignedUnder : Type 0 where
   pub certificate : Cert
   pub signers : List Cert

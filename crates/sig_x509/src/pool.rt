@@ -152,7 +152,7 @@ impl CertificatePool {
             leaf.now verification_time) }
         // The number of questions is bounded.
         ensures steps { steps.new ≤ steps.old + most_questions (with_further self.now further.now) }
-        // The checker's word matters only on the signatures of paths that would hold if each were genuine: another
+        // The checker's results matter only for the signatures of paths that would hold if each were genuine: another
         // checker that says the same of these has the same result.
         ensures asked { (other : Accepts) → AgreeOnPaths
             (C.cert_accepts checker.now) other (with_further self.now further.now) leaf.now verification_time
@@ -188,7 +188,7 @@ impl CertificatePool {
             (HasProfile leaf.now × HasNoPath (C.cert_accepts checker.now) self.now leaf.now verification_time) }
         // The number of questions is bounded.
         ensures steps { steps.new ≤ steps.old + most_questions self.now }
-        // The checker's word matters only on the signatures of paths that would hold if each were genuine.
+        // The checker's results matter only for the signatures of paths that would hold if each were genuine.
         ensures asked { (other : Accepts) → AgreeOnPaths
             (C.cert_accepts checker.now) other self.now leaf.now verification_time
             → Answers PoolError.OutOfMemory (λ issuer. issuer) result

@@ -1,4 +1,4 @@
--- The certificate and its key, or what is said against them.
+-- The certificate and its key, or their error.
 use Rattle.std.proofs.Common.{◌≡◌, Ok, Err, w64, FitsSigned, arith, rules, sym, subst}
 use Rattle.std.specs.Option.{option_copied}
 use Rattle.std.proofs.lemmas.Int.{ints, to_z-of_z}

@@ -1,4 +1,4 @@
--- Nothing is said against the certificate.
+-- The certificate passes every check.
 use Rattle.std.proofs.Common.{w64, FitsSigned, arith, rules}
 use Rattle.std.specs.Option.{option_copied}
 use Rattle.std.proofs.lemmas.Int.{ints, to_z-of_z}

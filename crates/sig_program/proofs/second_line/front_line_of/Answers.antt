@@ -1,4 +1,4 @@
--- The list is that of the tree of now, and the old root is not that of its first entries.
+-- The list is that of the new tree, and the old root is not that of its first entries.
 use Rattle.std.proofs.Common.{◌≡◌, ◌≢◌, ◌∙◌, sym, rules, arith, length}
 use Rattle.sig_program.proofs.FrontLines.{found-front}
 use Rattle.sig_program.proofs.second_line.front_line_of.Goals as goal

@@ -1,4 +1,4 @@
--- A signature for which no key is listed is nobody's.
+-- A signature for which no key is listed does not have a signer.
 use Rattle.std.proofs.Common.{sym, ◌∙◌}
 use Rattle.std.proofs.lemmas.Bool.{not-false}
 use Rattle.sig_x509.proofs.KeyAnswers.{signed_by_none}

@@ -1,4 +1,4 @@
--- What is said of the certificate is what the call returns.
+-- The call returns the result for the certificate.
 use Rattle.std.proofs.Common.{◌≡◌, Ok, Err, w64, FitsSigned, arith, rules, sym, subst, ap, refl, inl, inr}
 use Rattle.std.specs.Option.{option_copied}
 use Rattle.std.proofs.lemmas.Int.{ints, to_z-of_z}
