@@ -1,4 +1,4 @@
-//! What a case is read into. What cannot be read is empty, and makes the line a bad one.
+//! What a case is read into. What cannot be read is empty, and makes the line a `bad line`.
 
 use sig_audit::{AuditHead, Heads, Watch, WatchList};
 use sig_base::SigningScheme;

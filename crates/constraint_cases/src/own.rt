@@ -12,7 +12,7 @@ use std::alloc::Global;
 pub(crate) enum Own {
     /// Each layer satisfies it, and it changes none.
     Always,
-    /// No layer satisfies it, and it applies to none.
+    /// No layer satisfies it, and it does not apply to any.
     Never,
     /// Its calls fail.
     Fails,

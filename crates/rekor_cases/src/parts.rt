@@ -1,4 +1,4 @@
-//! What a case is read into. What cannot be read is empty, and makes the line a bad one.
+//! What a case is read into. What cannot be read is empty, and makes the line a `bad line`.
 
 use sig_base::{AcceptedRow, Bytes, Operation, OwnedList, SigningScheme, TableChecker, Text};
 use sig_cases::{Answer, Arguments};
@@ -60,7 +60,7 @@ fn copied(alloc: Global, answer: &mut Answer, bytes: &[u8]) -> Bytes {
     )
 }
 
-/// What was made; where memory ran out, the empty value.
+/// What was made; if memory ran out, the empty value.
 pub(crate) fn made<T: Drop, E: Drop>(answer: &mut Answer, outcome: Result<T, E>, empty: T) -> T {
     match outcome {
         Ok(value) => value,

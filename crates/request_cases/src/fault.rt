@@ -64,7 +64,7 @@ pub(crate) fn spaces(arguments: &mut Arguments<'_>, answer: &mut Answer) {
     }
 }
 
-/// So many spaces.
+/// A text of `count` spaces.
 fn spaces_of(alloc: Global, count: usize) -> Result<Vec<u8>, AllocError> {
     let mut text = Vec::with_capacity(alloc, count)?;
     let piece = [b' '; PIECE];

@@ -1,4 +1,4 @@
--- What heads are beside the list of all entries of the log (RFC 6962 section 2.1).
+-- How heads compare with the list of all entries of the log (RFC 6962 section 2.1).
 use Rattle.std.specs.Prelude.{◌≡◌, ℕ, ◌-◌, ◌≤◌, List, length, map, take, slice_get, Some}
 use Rattle.sig_merkle.specs.Root.{root}
 use Rattle.sig_audit.specs.declared.chain.ChainHead.{ChainHead}

@@ -1,4 +1,4 @@
--- What a list of all entries is beside audited heads and watches.
+-- How a list of all entries compares with audited heads and watches.
 use Rattle.std.specs.Prelude.{List, ℕ}
 use Rattle.sig_base.specs.Collision.{IsCollision}
 use Rattle.sig_merkle.specs.HashedText.{AreHashedTexts}

@@ -14,7 +14,7 @@ use crate::log_collision::{chain_of, log_collision};
 use sig_base::{Collision, Entries, OutOfMemory};
 use std::alloc::Global;
 
-/// What a list of entries is beside audited heads and watches.
+/// How a list of entries compares with audited heads and watches.
 #[derive(Drop)]
 pub enum Listing {
     /// It has another size or root than the last head.

@@ -18,7 +18,7 @@ use std::alloc::Global;
 /// then `refused inclusion I` of the watched entries in order; and `refused request` with status 2 if the text is not a
 /// request of `audit`. Fails only if out of memory.
 ///
-/// So of an audited log each head has the size and the root of the first entries of the list that the last one has, and
+/// So each head of an audited log has the size and the root of the first entries of the list that the last one has, and
 /// each watched entry is that list's at its index; or two different byte strings of equal SHA-256 are written.
 pub fn audit_reply(alloc: Global, request: &[u8]) -> Result<Reply, OutOfMemory>
     ensures { IfOk result (IsAuditReply request.now) }

@@ -1,4 +1,4 @@
--- What of a bundle is bytes.
+-- The parts of a bundle that are bytes.
 use Rattle.std.specs.Prelude.{◌≡◌, ℕ, List, [], ◌∷◌, Some}
 use Rattle.sig_base.specs.ByteLists.{AreBytes}
 use Rattle.sig_checked_bundle.specs.SigningCertificate.{encodings_in}

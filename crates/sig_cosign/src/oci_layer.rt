@@ -293,7 +293,7 @@ fn assembled(
     }
 }
 
-/// What of a descriptor and its bytes is in its layer too.
+/// The parts of a descriptor and its bytes that its layer has too.
 #[derive(Drop)]
 struct Copies {
     digest: Text,

@@ -8,7 +8,7 @@ use sig_explain_verify::laws::results;
 pub fn texts()
     ensures { TextsHaveOneTree }
 {
-    // What is shown of a bundle is one, and so is the proof of its log entry.
+    // What is shown of a bundle is unique, and so is the proof of its log entry.
     results();
     proofs();
 }

@@ -1,4 +1,4 @@
-//! What comes of two texts that are hashed beside each other, on the way up to two roots.
+//! The result for two texts that are hashed beside each other, on the way up to two roots.
 ghost use Rattle.std.specs.Prelude.{◌≡◌, ◌∷◌, ◌++◌, IfOk};
 ghost use Rattle.sig_merkle.specs.HashedText.{AreHashedTexts};
 ghost use Rattle.sig_merkle.specs.Meeting.{TextsMeet, LeavesMeet, NodesMeet};
@@ -7,7 +7,7 @@ use crate::hashing::{LEAF_HASH_PREFIX, NODE_HASH_PREFIX};
 use sig_base::{Bytes, Collision, OutOfMemory, sha256 as hash};
 use std::alloc::Global;
 
-/// What comes of two texts.
+/// The result for two texts.
 #[derive(Drop)]
 pub(crate) enum Meeting {
     /// Their hashes, which are equal only if the texts are.

@@ -1,6 +1,6 @@
 //! Arguments of cases that are values of crates above sig_base: checkpoints, keys, pools of certificates and rules.
 //!
-//! As of [`Arguments`] no call fails: what cannot be read is empty, and makes the line a bad one.
+//! As with [`Arguments`], no call fails: what cannot be read is empty, and makes the line a `bad line`.
 //!
 //! [`Arguments`]: sig_cases::Arguments
 #![tactic(auto)]

@@ -37,7 +37,7 @@ passes t (GitHubWorkflowRepository p) = t.repository p.0
 passes t (GitHubWorkflowRef p) = t.git_ref p.0
 passes t (Identity p) = t.identity p.issuer p.identity
 
--- what is asked for is what a certificate says
+-- the required text is what a certificate says
 abbrev pub said_tests : Values → Tests
 said_tests v =
     record {

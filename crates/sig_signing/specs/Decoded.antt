@@ -1,4 +1,4 @@
--- *Texts that encode bytes* in Rekor's API, of any length: hexadecimal digits in either case (RFC 4648 section 8),
+-- *Texts that stand for bytes* in Rekor's API, of any length: hexadecimal digits in either case (RFC 4648 section 8),
 -- padded base64 (RFC 4648 section 4), and the canonical JSON (RFC 8785) of a body.
 use Rattle.std.specs.Prelude.{ℕ, List, Option, Result, Ok, Err}
 use Rattle.std.specs.Option.{ok_or}
