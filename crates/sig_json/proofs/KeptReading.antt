@@ -21,7 +21,7 @@ use Rattle.sig_json.specs.Document.{document_of}
 use Rattle.sig_json.specs.Gathered.{Entry}
 use Rattle.sig_json.specs.NamedTree.{IsNamedTree}
 use Rattle.sig_json.specs.Only.{is_among, members_where, only, only_of, without}
-use Rattle.sig_json.specs.Skipped.{KeepsAllOf}
+use Rattle.sig_json.specs.Skipped.{KeepsOf}
 use Rattle.sig_json.specs.View.{Words, view, members_view}
 use Rattle.sig_json.specs.declared.error.DocumentError.{DocumentError}
 use Rattle.sig_json.specs.declared.error.DocumentError.TheVariants.{NotJson, Float, OutOfMemory}
@@ -64,29 +64,29 @@ module _ (names : List (List ℕ)) (text : List ℕ) where
   -- ---- what was kept of it
 
   pub kept_read : (floats : Bool) (v : Vec Entry Global) → IsUtf8 text
-      → KeepsAllOf floats names text (members_view v.items) → floats ≡ false → has_float (view (Object v)) ≡ false
+      → KeepsOf floats names text (members_view v.items) → floats ≡ false → has_float (view (Object v)) ≡ false
       → only_of names (document_of text) ≡ Ok (view (Object v))
   unfolding only
   kept_read floats v utf8 keeps beside none =
       let kept : members_have_float (members_where (is_among names) keeps.all)
-      ≡ false = ap members_have_float keeps.are ∙ sym (ap has_float (view-Object v)) ∙ none in
+      ≡ false = ap members_have_float keeps.part.are ∙ sym (ap has_float (view-Object v)) ∙ none in
       only_read (object keeps.all) (view (Object v)) utf8 keeps.is
-      (floatless-both (is_among names) keeps.all kept (keeps.same ∙ beside))
-      (view-Object v ∙ ap object (sym keeps.are))
+      (floatless-both (is_among names) keeps.all kept (keeps.part.held ∙ beside))
+      (view-Object v ∙ ap object (sym keeps.part.are))
 
   pub kept_float : (floats : Bool) (v : Vec Entry Global) → IsUtf8 text
-      → KeepsAllOf floats names text (members_view v.items) → has_float (view (Object v)) ≡ true
+      → KeepsOf floats names text (members_view v.items) → has_float (view (Object v)) ≡ true
       → only_of names (document_of text) ≡ Err Float
   kept_float floats v utf8 keeps float =
       only_float (object keeps.all) utf8 keeps.is
       (float-where (is_among names) keeps.all
-      (ap members_have_float keeps.are ∙ sym (ap has_float (view-Object v)) ∙ float))
+      (ap members_have_float keeps.part.are ∙ sym (ap has_float (view-Object v)) ∙ float))
 
-  pub kept_beside : (floats : Bool) (kept : Members) → IsUtf8 text → KeepsAllOf floats names text kept
+  pub kept_beside : (floats : Bool) (kept : Members) → IsUtf8 text → KeepsOf floats names text kept
       → floats ≡ true → only_of names (document_of text) ≡ Err Float
   kept_beside floats kept utf8 keeps float =
       only_float (object keeps.all) utf8 keeps.is
-      (float-where (λ name. not (is_among names name)) keeps.all (keeps.same ∙ float))
+      (float-where (λ name. not (is_among names name)) keeps.all (keeps.part.held ∙ float))
 
 pub cut_floatless : (names : List (List ℕ)) (d e : Data) → has_float d ≡ false → e ≡ only names d
     → has_float e ≡ false

@@ -1,6 +1,5 @@
 pub mod Trees
-pub mod OpenValues
-pub mod OpenTurns
+pub mod NotedMembers
 pub mod RemainingNames
 pub mod ReaderResults
 pub mod OrderedMembers
@@ -32,7 +31,6 @@ pub mod SkippedValues
 pub mod SortedMembers
 pub mod ShortIntegers
 pub mod KeptMembers
-pub mod OtherFloats
 pub mod KeptReading
 pub mod StreamedLists
 pub mod WrittenValues

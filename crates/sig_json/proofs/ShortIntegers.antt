@@ -12,7 +12,7 @@ use Rattle.fast_float.specs.Text.{Parts, scan}
 use Rattle.serde_json.specs.Data.{unsigned}
 use Rattle.serde_json.specs.Read.{number_of, number_from}
 use Rattle.sig_base.proofs.Digits.{digits_mean}
-use Rattle.sig_json.specs.Skipped.{IsWhole}
+use Rattle.sig_json.specs.Skipped.{IsNumber}
 
 -- digits, and neither a point nor an exponent
 abbrev parts_of : List ℕ → Parts
@@ -45,7 +45,7 @@ no_minus : (ds : List ℕ) → list_all is_ascii_digit ds ≡ true → (get_or d
 no_minus [] all = refl
 no_minus (d ∷ ds) all = ne_eqb d 45 (λ is. cc)
 
-pub whole_digits : (ds : List ℕ) → 0 < length ds → length ds ≤ 19 → list_all is_ascii_digit ds ≡ true → IsWhole ds
+pub whole_digits : (ds : List ℕ) → 0 < length ds → length ds ≤ 19 → list_all is_ascii_digit ds ≡ true → IsNumber false ds
 unfolding number_of
 whole_digits ds some few all =
     let digits = digits_mean ds all in
@@ -54,10 +54,10 @@ whole_digits ds some few all =
       value = unsigned (digits_value 10 (ds ++ []));
       is = meant ∙ ap (number_from false) (scanned ds digits)
           ∙ rw (lt-ltb 0 (length ds) some, lt-ltb _ (2 ^ 64) (below ds digits few)) refl;
-      whole = refl;
+      held = refl;
     }
 
-pub one_digit : (ds : List ℕ) → length ds ≡ 1 → is_ascii_digit (get_or ds 0 0) ≡ true → IsWhole ds
+pub one_digit : (ds : List ℕ) → length ds ≡ 1 → is_ascii_digit (get_or ds 0 0) ≡ true → IsNumber false ds
 one_digit [] one is = absurd cc
 one_digit (d ∷ []) one is = whole_digits (d ∷ []) (omega arith) (omega arith) (rw is refl)
 one_digit (d ∷ e ∷ ds) one is = absurd (omega (arith, one))

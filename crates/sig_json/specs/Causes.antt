@@ -7,20 +7,10 @@ use Rattle.sig_json.specs.declared.error.MemberError.{MemberError}
 use Rattle.sig_json.specs.declared.error.MemberError.TheVariants as member
 use Rattle.sig_json.specs.declared.error.ReadError.{ReadError}
 use Rattle.sig_json.specs.declared.error.ReadError.TheVariants as reading
-use Rattle.sig_json.specs.declared.error.SkipError.{SkipError}
-use Rattle.sig_json.specs.declared.error.SkipError.TheVariants as skipping
 
 abbrev pub cause_of_reading : ReadError → DocumentError
 cause_of_reading reading.NotJson = document.NotJson
 cause_of_reading reading.OutOfMemory = document.OutOfMemory
-
-abbrev pub cause_of_skipping : ReadError → SkipError
-cause_of_skipping reading.NotJson = skipping.NotJson
-cause_of_skipping reading.OutOfMemory = skipping.OutOfMemory
-
-abbrev pub cause_of_streaming : MemberError → SkipError
-cause_of_streaming member.Member = skipping.Unsure
-cause_of_streaming member.OutOfMemory = skipping.OutOfMemory
 
 abbrev pub cause_of_document : DocumentError → JsonError
 cause_of_document document.NotJson = NotJson

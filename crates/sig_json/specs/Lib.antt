@@ -5,6 +5,7 @@ pub mod Document
 pub mod Gathered
 pub mod Integer
 pub mod Kinds
+pub mod Noted
 pub mod NumberKinds
 pub mod List
 pub mod Member

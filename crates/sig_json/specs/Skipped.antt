@@ -1,21 +1,19 @@
 -- For private clauses: parts of a text that are read without a tree of them.
 use Rattle.std.specs.Cow.{cow_str_bytes}
-use Rattle.std.specs.Prelude.{◌≡◌, ◌⊎◌, ℕ, Bool, true, false, not, List, [], ◌∷◌, ◌++◌, length, Option, Some, None}
+use Rattle.std.specs.Prelude.{◌≡◌, ◌⊎◌, ℕ, Bool, true, false, not, List, [], ◌∷◌, ◌++◌, length, Option, Some}
 use Rattle.std.specs.Str.{IsUtf8}
-use Rattle.json.specs.Json.{value, items, members, after_end_array, read_key}
+use Rattle.json.specs.Json.{value, items, members}
 use Rattle.json.specs.Token.{Token}
 use Rattle.serde_json.specs.Data.{Num, Data, object, Items, Members, no_members}
 use Rattle.serde_json.specs.Find.{is_float}
 use Rattle.serde_json.specs.Read.{number_of, of_json, of_items, of_members, converted, read}
 use Rattle.serde_json.specs.Written.{has_float, items_have_float, members_have_float}
-use Rattle.sig_base.specs.ByText.{KeysAscend}
 use Rattle.sig_json.specs.Gathered.{Entry}
-use Rattle.sig_json.specs.Members.{members_list}
 use Rattle.sig_json.specs.NamedTree.{IsNamedTree}
+use Rattle.sig_json.specs.Noted.{NotesOneMore}
 use Rattle.sig_json.specs.Only.{is_among, members_where}
 use Rattle.sig_json.specs.View.{Words, view}
-use Rattle.sig_json.specs.declared.skip.Rest.{Rest}
-use Rattle.sig_json.specs.declared.skip.Rest.TheVariants as left_of
+use Rattle.sig_json.specs.declared.notes.Notes.{Notes}
 use Rattle.sig_json.specs.declared.tree.Tree.{Tree}
 
 -- what the tokens mean as a value, as the elements of a list and as the members of an object, to this depth, and the
@@ -29,50 +27,32 @@ items_meant depth ts = converted of_items (items (value depth) (length ts) ts)
 abbrev pub members_meant : ℕ → List Token → Option (Members × List Token)
 members_meant depth ts = converted (λ ms. of_members ms no_members) (members (value depth) (length ts) ts)
 
--- an integer
-pub record IsWhole (text : List ℕ) : Type 0 where
+-- a number, and whether it is held as a float
+pub record IsNumber (float : Bool) (text : List ℕ) : Type 0 where
   pub value : Num
   pub is : number_of text ≡ Some value
-  pub whole : is_float value ≡ false
+  pub held : is_float value ≡ float
 
--- an integer, or a number that is held as a float
-abbrev pub IsNumber : (float : Bool) → List ℕ → Type 0
-IsNumber false text = IsWhole text
-IsNumber true text = (value : Num) × (number_of text ≡ Some value)
-
--- a value, whose tokens end before `rest`: it has no float, unless one was met
-pub record PassesValue (floats : Bool) (depth : ℕ) (ts rest : List Token) : Type 0 where
+-- a value, whose tokens end before `rest`, and whether it has a float
+pub record PassesValue (float : Bool) (depth : ℕ) (ts rest : List Token) : Type 0 where
   pub value : Data
   pub is : value_meant depth ts ≡ Some (value, rest)
-  pub whole : floats ≡ false → has_float value ≡ false
+  pub held : has_float value ≡ float
 
-pub record PassesItems (depth : ℕ) (ts rest : List Token) : Type 0 where
+-- the same of the elements of a list, after its bracket, and of the members of an object, after its brace
+pub record PassesItems (float : Bool) (depth : ℕ) (ts rest : List Token) : Type 0 where
   pub items : Items
   pub are : items_meant depth ts ≡ Some (items, rest)
-  pub whole : items_have_float items ≡ false
+  pub held : items_have_float items ≡ float
 
--- the first token of a list and of an object
-abbrev pub opening : Bool → Token
-opening true = Token.begin_object
-opening false = Token.begin_array
-
--- the first token of a value is passed over, and this is left of the value
-abbrev pub BeginsValue : Rest → List Token → List Token → Type 0
-BeginsValue left_of.Nothing ts rest = (depth : ℕ) → PassesValue false depth ts rest
-BeginsValue left_of.Float ts rest = (depth : ℕ) → PassesValue true depth ts rest
-BeginsValue left_of.Items ts rest = ts ≡ opening false ∷ rest
-BeginsValue left_of.Members ts rest = ts ≡ opening true ∷ rest
-
--- of an object, or else of a list: its end is taken if it is next, and else of an object the name of the next member
-abbrev pub TakesEnd : (of_object is_over : Bool) → List Token → List Token → Type 0
-TakesEnd true true ts rest = read_key ts ≡ Some (None, rest)
-TakesEnd true false ts rest = (name : List ℕ) × (read_key ts ≡ Some (Some name, rest))
-TakesEnd false true ts rest = after_end_array ts ≡ Some rest
-TakesEnd false false ts rest = (after_end_array ts ≡ None) × (rest ≡ ts)
+pub record PassesMembers (float : Bool) (depth : ℕ) (ts rest : List Token) : Type 0 where
+  pub all : Members
+  pub are : members_meant depth ts ≡ Some (all, rest)
+  pub held : members_have_float all ≡ float
 
 -- the value of a member of a listed name, whose tokens end before `rest`, is kept after those that were kept before
 pub record KeepsValue (names : List (List ℕ)) (depth : ℕ) (name : List ℕ) (ts rest : List Token)
-    (before after : List Entry) : Type 0 where
+    (before after : List Entry) (noted now : Notes) : Type 0 where
   pub listed : is_among names name ≡ true
   pub key : Words
   pub value : Tree
@@ -81,57 +61,41 @@ pub record KeepsValue (names : List (List ℕ)) (depth : ℕ) (name : List ℕ) 
   pub is : value_meant depth ts ≡ Some (view value, rest)
   pub named : IsNamedTree (view value)
   pub added : after ≡ before ++ (key, value) ∷ []
+  pub same_notes : now ≡ noted
 
--- the value of a member of another name is passed over, and what was kept stays
-pub record LeavesValue (floats : Bool) (names : List (List ℕ)) (depth : ℕ) (name : List ℕ) (ts rest : List Token)
-    (before after : List Entry) : Type 0 where
+-- the value of a member of another name is passed over and noted, and what was kept stays
+pub record LeavesValue (names : List (List ℕ)) (depth : ℕ) (name : List ℕ) (ts rest : List Token)
+    (before after : List Entry) (noted now : Notes) : Type 0 where
   pub other : is_among names name ≡ false
-  pub passed : PassesValue floats depth ts rest
+  pub float : Bool
+  pub passed : PassesValue float depth ts rest
+  pub one_more : NotesOneMore name float noted now
   pub stays : after ≡ before
 
-abbrev pub TakesValue : (floats : Bool) → List (List ℕ) → ℕ → List ℕ → List Token → List Token → List Entry
-    → List Entry → Type 0
-TakesValue floats names depth name ts rest before after =
-    KeepsValue names depth name ts rest before after ⊎ LeavesValue floats names depth name ts rest before after
+abbrev pub TakesValue : List (List ℕ) → ℕ → List ℕ → (ts rest : List Token) → (before after : List Entry)
+    → (noted now : Notes) → Type 0
+TakesValue names depth name ts rest before after noted now =
+    KeepsValue names depth name ts rest before after noted now
+    ⊎ LeavesValue names depth name ts rest before after noted now
 
 -- the members of other names
 abbrev pub others_of : List (List ℕ) → Members → Members
 others_of names = members_where (λ name. not (is_among names name))
 
--- of all members these are kept, and those that are not have no floats, unless one was met
-pub record AreKeptMembers (floats : Bool) (names : List (List ℕ)) (all kept : Members) : Type 0 where
-  pub ascend : KeysAscend (members_list all)
+-- of all members these are kept, and this is whether the others have a float
+pub record AreKeptMembers (float : Bool) (names : List (List ℕ)) (all kept : Members) : Type 0 where
   pub are : members_where (is_among names) all ≡ kept
-  pub whole : floats ≡ false → members_have_float (others_of names all) ≡ false
+  pub held : members_have_float (others_of names all) ≡ float
 
 -- the tokens are those of members of which these are kept
-pub record KeepsMembers (floats : Bool) (names : List (List ℕ)) (depth : ℕ) (ts rest : List Token) (kept : Members)
+pub record KeepsMembers (float : Bool) (names : List (List ℕ)) (depth : ℕ) (ts rest : List Token) (kept : Members)
     : Type 0 where
   pub all : Members
   pub are : members_meant depth ts ≡ Some (all, rest)
-  pub part : AreKeptMembers floats names all kept
+  pub part : AreKeptMembers float names all kept
 
 -- the text is an object, of whose members these are kept
-pub record KeepsOf (floats : Bool) (names : List (List ℕ)) (text : List ℕ) (kept : Members) : Type 0 where
+pub record KeepsOf (float : Bool) (names : List (List ℕ)) (text : List ℕ) (kept : Members) : Type 0 where
   pub all : Members
   pub is : read text ≡ Some (object all)
-  pub part : AreKeptMembers floats names all kept
-
--- the tokens are those of members of which those of other names have a float where the noted ones have one
-pub record NotesMembers (names : List (List ℕ)) (depth : ℕ) (ts rest : List Token) (noted : Members) : Type 0 where
-  pub all : Members
-  pub are : members_meant depth ts ≡ Some (all, rest)
-  pub same : members_have_float noted ≡ members_have_float (others_of names all)
-
--- the text is an object, and this is whether its members of other names have a float
-pub record HasFloatBeside (floats : Bool) (names : List (List ℕ)) (text : List ℕ) : Type 0 where
-  pub all : Members
-  pub is : read text ≡ Some (object all)
-  pub same : members_have_float (others_of names all) ≡ floats
-
--- the text is an object, of whose members these are kept, and this is whether the others have a float
-pub record KeepsAllOf (floats : Bool) (names : List (List ℕ)) (text : List ℕ) (kept : Members) : Type 0 where
-  pub all : Members
-  pub is : read text ≡ Some (object all)
-  pub are : members_where (is_among names) all ≡ kept
-  pub same : members_have_float (others_of names all) ≡ floats
+  pub part : AreKeptMembers float names all kept

@@ -25,15 +25,6 @@ pub(crate) enum ReadError {
     OutOfMemory,
 }
 
-/// Why a text could not be read for a part of its tree alone.
-#[derive(Clone, Copy, Drop)]
-pub(crate) enum SkipError {
-    NotJson,
-    // Only the whole tree says what the text is read as.
-    Unsure,
-    OutOfMemory,
-}
-
 /// Why a member could not be read.
 #[derive(Clone, Copy, Debug, PartialEq, Eq, Error)]
 pub enum MemberError {
@@ -92,67 +83,6 @@ impl From<Invalid> for ReadError {
 
     fn from(_error: Invalid) -> ReadError {
         ReadError::NotJson
-    }
-}
-
-impl From<Invalid> for SkipError {
-    ghost use Rattle.std.specs.Prelude.{◌≡◌};
-    ghost use Rattle.sig_json.specs.declared.error.SkipError.TheVariants.{NotJson};
-
-    ghost from_gives = { λ _ e. e ≡ NotJson };
-
-    fn from(_error: Invalid) -> SkipError {
-        SkipError::NotJson
-    }
-}
-
-impl From<OutOfMemory> for SkipError {
-    ghost use Rattle.std.specs.Prelude.{◌≡◌};
-    ghost use Rattle.sig_json.specs.declared.error.SkipError.TheVariants.{OutOfMemory};
-
-    ghost from_gives = { λ _ e. e ≡ OutOfMemory };
-
-    fn from(_error: OutOfMemory) -> SkipError {
-        SkipError::OutOfMemory
-    }
-}
-
-impl From<AllocError> for SkipError {
-    ghost use Rattle.std.specs.Prelude.{◌≡◌};
-    ghost use Rattle.sig_json.specs.declared.error.SkipError.TheVariants.{OutOfMemory};
-
-    ghost from_gives = { λ _ e. e ≡ OutOfMemory };
-
-    fn from(_error: AllocError) -> SkipError {
-        SkipError::OutOfMemory
-    }
-}
-
-impl From<ReadError> for SkipError {
-    ghost use Rattle.std.specs.Prelude.{◌≡◌};
-    ghost use Rattle.sig_json.specs.Causes.{cause_of_skipping};
-
-    ghost from_gives = { λ cause e. e ≡ cause_of_skipping cause };
-
-    fn from(error: ReadError) -> SkipError {
-        match error {
-            ReadError::NotJson => SkipError::NotJson,
-            ReadError::OutOfMemory => SkipError::OutOfMemory,
-        }
-    }
-}
-
-impl From<MemberError> for SkipError {
-    ghost use Rattle.std.specs.Prelude.{◌≡◌};
-    ghost use Rattle.sig_json.specs.Causes.{cause_of_streaming};
-
-    ghost from_gives = { λ cause e. e ≡ cause_of_streaming cause };
-
-    fn from(error: MemberError) -> SkipError {
-        match error {
-            MemberError::Member => SkipError::Unsure,
-            MemberError::OutOfMemory => SkipError::OutOfMemory,
-        }
     }
 }
 

@@ -1,5 +1,5 @@
 //! A text that is read for the members of some names: every other member is passed over, and no tree is made of it.
-ghost use Rattle.std.specs.Prelude.{◌≡◌, ◌<◌, None, false, Err, IfOk, OnOk, length};
+ghost use Rattle.std.specs.Prelude.{◌≡◌, ◌<◌, None, false, Err, IfOk, IfSome, OnOk, length};
 ghost use Rattle.std.specs.Cow.{cow_str_bytes};
 ghost use Rattle.std.specs.List.{filter};
 ghost use Rattle.serde_json.specs.Read.{read as tree_of};
@@ -8,15 +8,15 @@ ghost use Rattle.sig_base.specs.Answers.{Answers};
 ghost use Rattle.sig_json.specs.Document.{document_of};
 ghost use Rattle.sig_json.specs.NamedTree.{IsNamedTree, NamesAscend, HasNamedValues};
 ghost use Rattle.sig_json.specs.Only.{is_among, members_where, names_of, only, only_of};
-ghost use Rattle.sig_json.specs.Skipped.{KeepsAllOf, KeepsMembers, KeepsOf, TakesValue, value_meant};
-ghost use Rattle.sig_json.specs.Skipped.{members_meant};
+ghost use Rattle.sig_json.specs.Gathered.{AreInOrderIfFew};
+ghost use Rattle.sig_json.specs.Skipped.{KeepsMembers, KeepsOf, TakesValue, value_meant, members_meant};
 ghost use Rattle.sig_json.specs.Tree.{document_tree};
 ghost use Rattle.sig_json.specs.View.{view, members_view};
 
-use crate::beside::is_float_beside;
 use crate::document::{Document, whole_tree};
-use crate::error::{DocumentError, SkipError};
+use crate::error::{DocumentError, ReadError};
 use crate::floats::is_float_in;
+use crate::notes::Notes;
 use crate::order::in_order;
 use crate::owned::own_tree;
 use crate::read::{MAX_DEPTH, read_value};
@@ -34,9 +34,8 @@ impl Document {
     /// Reads a text as `read` does, but of an object (RFC 8259 section 4) keeps the members of these names alone; any
     /// other value is kept whole. The errors are those of `read`, for the whole text.
     ///
-    /// No tree is made of a member of another name, unless a number in it is held as a float. A float does not count
-    /// if a later member of the same name takes its place: then the text is gone through once more, for the members of
-    /// the other names, of which the tree of one at a time is made.
+    /// No tree is made of a member of another name. A float in it does not count if a later member of the same name
+    /// takes its place: after the first float of an object the names that come are noted, until the object ends.
     pub fn read_members(
         alloc: Global,
         text: &[u8],
@@ -70,9 +69,9 @@ pub(crate) fn kept_tree<'r>(
     let Ok(valid) = simdutf8::compat::from_utf8(text) else {
         return Err(DocumentError::NotJson);
     };
-    match read_object(alloc, valid, names, scratch) {
-        Ok((kept, floats)) => {
-            if floats {
+    match read_kept(alloc, valid, names, scratch)? {
+        Some((kept, float)) => {
+            if float {
                 return Err(DocumentError::Float);
             }
             let value = Tree::Object(kept);
@@ -81,38 +80,10 @@ pub(crate) fn kept_tree<'r>(
             }
             Ok(value)
         }
-        Err(SkipError::NotJson) => Err(DocumentError::NotJson),
-        Err(SkipError::OutOfMemory) => Err(DocumentError::OutOfMemory),
-        Err(SkipError::Unsure) => {
+        None => {
             let whole = whole_tree(alloc, text, spare)?;
             Ok(keep_only(whole, names))
         }
-    }
-}
-
-/// The members of these names of a text that is an object, and whether its other members have a float. Fails with
-/// `NotJson` only if the text has no tree.
-#[tactic(auto, using(crate::proofs::OtherFloats::beside))]
-fn read_object<'r>(
-    alloc: Global,
-    text: &'r str,
-    names: &[&str],
-    scratch: &'r mut Scratch,
-) -> Result<(Vec<Entry<'r>>, bool), SkipError>
-    ensures ok { IfOk result (λ kept. KeepsAllOf kept.1 (names_of names.now) text.now
-        (members_view kept.0.items)) }
-    ensures err { result ≡ Err SkipError.NotJson → tree_of text.now ≡ None }
-    ensures named { IfOk result (λ kept. NamesAscend (members_view kept.0.items)
-        × HasNamedValues (members_view kept.0.items)) }
-{
-    let (kept, floats) = read_kept(alloc, text, names, scratch)?;
-    if !floats {
-        return Ok((kept, false));
-    }
-    match is_float_beside(alloc, text, names) {
-        Ok(beside) => Ok((kept, beside)),
-        Err(SkipError::OutOfMemory) => Err(SkipError::OutOfMemory),
-        Err(SkipError::NotJson | SkipError::Unsure) => Err(SkipError::Unsure),
     }
 }
 
@@ -141,59 +112,58 @@ fn keep_members(members: &mut Vec<Entry<'_>>, names: &[&str])
     members.retain(move |member| is_among(names, member.0.as_str()));
 }
 
-/// The members of these names of a text that is an object, and whether a number that is held as a float was passed
-/// over in a member of another name. Fails with `NotJson` only if the text has no tree.
+/// The members of these names of a text that is an object, and whether a member of another name has a float; none
+/// where the text is another value. Fails with `NotJson` only if the text has no tree.
 #[tactic(auto, using(crate::proofs::KeptMembers::texts))]
-pub(crate) fn read_kept<'r>(
+fn read_kept<'r>(
     alloc: Global,
     text: &'r str,
     names: &[&str],
     scratch: &'r mut Scratch,
-) -> Result<(Vec<Entry<'r>>, bool), SkipError>
-    ensures ok { IfOk result (λ kept. KeepsOf kept.1 (names_of names.now) text.now (members_view kept.0.items)) }
-    ensures err { result ≡ Err SkipError.NotJson → tree_of text.now ≡ None }
-    ensures named { IfOk result (λ kept. NamesAscend (members_view kept.0.items)
-        × HasNamedValues (members_view kept.0.items)) }
+) -> Result<Option<(Vec<Entry<'r>>, bool)>, ReadError>
+    ensures ok { IfOk result (λ found. IfSome found (λ kept. KeepsOf kept.1 (names_of names.now) text.now
+        (members_view kept.0.items))) }
+    ensures err { result ≡ Err ReadError.NotJson → tree_of text.now ≡ None }
+    ensures named { IfOk result (λ found. IfSome found (λ kept. NamesAscend (members_view kept.0.items)
+        × HasNamedValues (members_view kept.0.items))) }
 {
     let mut reader = Reader::new(text, scratch)?;
     let Some(Token::BeginObject) = reader.next() else {
-        return Err(SkipError::Unsure);
+        return Ok(None);
     };
     let kept = read_kept_members(alloc, &mut reader, MEMBER_DEPTH, names)?;
     match reader.next() {
-        Some(_) => Err(SkipError::NotJson),
-        None => Ok(kept),
+        Some(_) => Err(ReadError::NotJson),
+        None => Ok(Some(kept)),
     }
 }
 
-/// The members of these names, after the opening brace.
+/// The members of these names, after the opening brace, and whether one of another name has a float.
 #[tactic(auto, using(crate::proofs::KeptMembers::kept))]
 fn read_kept_members<'r>(
     alloc: Global,
     reader: &mut Reader<'r>,
     depth: usize,
     names: &[&str],
-) -> Result<(Vec<Entry<'r>>, bool), SkipError>
+) -> Result<(Vec<Entry<'r>>, bool), ReadError>
     ensures ok { IfOk result (λ kept. KeepsMembers kept.1 (names_of names.now) depth reader.old reader.new
         (members_view kept.0.items)) }
-    ensures err { result ≡ Err SkipError.NotJson → members_meant depth reader.old ≡ None }
+    ensures err { result ≡ Err ReadError.NotJson → members_meant depth reader.old ≡ None }
     ensures named { IfOk result (λ kept. NamesAscend (members_view kept.0.items)
         × HasNamedValues (members_view kept.0.items)) }
 {
     let mut found = Vec::new(alloc);
-    let mut floats = false;
+    let mut notes = Notes::new(alloc);
     'members: while let Some(name) = reader.next_key()? {
-        if take_value(alloc, reader, depth, names, name, &mut found)? {
-            floats = true;
-        }
+        take_value(alloc, reader, depth, names, name, &mut found, &mut notes)?;
     }
+    let float = notes.tell(alloc)?;
     let mut ordered = in_order(alloc, found)?;
     ordered.shrink_to_fit();
-    Ok((ordered, floats))
+    Ok((ordered, float))
 }
 
-/// Reads the value of a member: kept after the others if the name is one of these, and else passed over. Returns
-/// whether a number that is held as a float was passed over.
+/// Reads the value of a member: kept after the others if the name is one of these, and else passed over and noted.
 pub(crate) fn take_value<'r>(
     alloc: Global,
     reader: &mut Reader<'r>,
@@ -201,19 +171,23 @@ pub(crate) fn take_value<'r>(
     names: &[&str],
     name: &'r str,
     kept: &mut Vec<Entry<'r>>,
-) -> Result<bool, SkipError>
-    ensures ok { IfOk result (λ floats. TakesValue floats (names_of names.now) depth name.now reader.old reader.new
-        kept.old.items kept.new.items) }
-    ensures err { result ≡ Err SkipError.NotJson → value_meant depth reader.old ≡ None }
+    notes: &mut Notes<'r>,
+) -> Result<(), ReadError>
+    requires { AreInOrderIfFew notes.old.noted.items }
+    ensures ok { OnOk result (TakesValue (names_of names.now) depth name.now reader.old reader.new
+        kept.old.items kept.new.items notes.old notes.new) }
+    ensures err { result ≡ Err ReadError.NotJson → value_meant depth reader.old ≡ None }
     ensures shorter { OnOk result (length reader.new < length reader.old) }
 {
-    if !is_among(names, name) {
-        return skip_value(reader, depth);
+    if is_among(names, name) {
+        let key = borrow(name);
+        let value = read_value(alloc, reader, depth)?;
+        add(kept, (key, value))?;
+    } else {
+        let float = skip_value(alloc, reader, depth)?;
+        notes.add(name, float)?;
     }
-    let key = borrow(name);
-    let value = read_value(alloc, reader, depth)?;
-    add(kept, (key, value))?;
-    Ok(false)
+    Ok(())
 }
 
 /// Whether the name is one of these. A loop of its own: `contains` prepares for many names.

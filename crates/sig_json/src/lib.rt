@@ -35,7 +35,6 @@
 #![tactic(auto)]
 
 mod any;
-mod beside;
 mod borrowed_document;
 mod build;
 mod change;
@@ -54,6 +53,7 @@ pub mod laws;
 mod member;
 mod members;
 mod members_and_list;
+mod notes;
 mod number;
 mod number_kind;
 mod object;

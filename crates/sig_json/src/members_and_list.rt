@@ -11,7 +11,7 @@ ghost use Rattle.sig_json.specs.View.{view};
 use crate::borrowed_document::BorrowedDocument;
 use crate::document::{Document, whole_tree};
 use crate::element::{ElementReader, optional_list};
-use crate::error::{JsonError, SkipError};
+use crate::error::{JsonError, ReadError};
 use crate::floats::is_float_in;
 use crate::kept::{is_among, keep_only};
 use crate::stream::stream_text;
@@ -52,9 +52,9 @@ impl Document {
 impl<'t> BorrowedDocument<'t> {
     /// Reads a text as `Document::read_members_and_list` does.
     ///
-    /// An element is read when it comes, and no tree is made of the list. Where that finds no such elements, the whole
-    /// tree is made, in the second scratch, which tells what the text is.
-    #[tactic(auto, using(crate::proofs::StreamedLists::streamed_read, crate::proofs::StreamedLists::streamed_float, crate::proofs::Tokens::object_is_named))]
+    /// An element is read when it comes, and no tree is made of the list. A text that is not an object, and one whose
+    /// list is to be among the members too, is read as a whole tree, in the second scratch.
+    #[tactic(auto, using(crate::proofs::StreamedLists::streamed, crate::proofs::Tokens::object_is_named))]
     pub fn read_members_and_list<E: ElementReader>(
         alloc: Global,
         text: &'t [u8],
@@ -67,23 +67,26 @@ impl<'t> BorrowedDocument<'t> {
             (record_in (members_and_list (names_of names.now) list.now E.meaning) text.now) }
     {
         let Ok(valid) = simdutf8::compat::from_utf8(text) else {
-            return read_whole_and_list::<E>(alloc, text, names, list, spare);
+            return Err(JsonError::NotJson);
         };
         if is_among(names, list) {
             return read_whole_and_list::<E>(alloc, text, names, list, spare);
         }
         match stream_text::<E>(alloc, valid, names, list, scratch) {
-            Ok((kept, elements)) => {
+            Ok(Some((kept, elements, float))) => {
+                if float {
+                    return Err(JsonError::Float);
+                }
                 let value = Tree::Object(kept);
                 if is_float_in(&value) {
                     return Err(JsonError::Float);
                 }
+                let elements = elements.ok_or(JsonError::Member)?;
                 Ok((BorrowedDocument { value }, elements))
             }
-            Err(SkipError::OutOfMemory) => Err(JsonError::OutOfMemory),
-            Err(SkipError::NotJson | SkipError::Unsure) => {
-                read_whole_and_list::<E>(alloc, text, names, list, spare)
-            }
+            Ok(None) => read_whole_and_list::<E>(alloc, text, names, list, spare),
+            Err(ReadError::NotJson) => Err(JsonError::NotJson),
+            Err(ReadError::OutOfMemory) => Err(JsonError::OutOfMemory),
         }
     }
 }

@@ -1,150 +1,117 @@
 //! A value that is passed over: checked as it would be read, but no tree is made of it.
-ghost use Rattle.std.specs.Prelude.{◌≡◌, ◌∷◌, ◌+◌, ◌<◌, ◌≤◌, ℕ, true, None, Err, length, IfOk, OnOk, IsTrue};
+ghost use Rattle.std.specs.Prelude.{◌≡◌, ◌∷◌, ◌<◌, None, Err, false, length, IfOk, OnOk, IsTrue};
 ghost use Rattle.std.specs.Char.{is_ascii_digit};
 ghost use Rattle.std.specs.List.{list_all};
-ghost use Rattle.json.specs.Json.{read_key};
+ghost use Rattle.json.specs.Reads.{token_of};
 ghost use Rattle.serde_json.specs.Read.{number_of};
-ghost use Rattle.sig_json.specs.Skipped.{BeginsValue, IsNumber, IsWhole, PassesValue, TakesEnd, opening, value_meant};
+ghost use Rattle.sig_json.specs.Skipped.{IsNumber, PassesValue, PassesItems, PassesMembers};
+ghost use Rattle.sig_json.specs.Skipped.{value_meant, items_meant, members_meant};
 
-use crate::error::SkipError;
+use crate::error::ReadError;
+use crate::notes::Notes;
 use crate::number::number_in;
 use json::{Reader, Token};
+use std::alloc::Global;
 
 /// So many decimal digits write a number below 2^64.
 const FEW_DIGITS: usize = 19;
 
-/// So many lists and objects may be open: as many as `MEMBER_DEPTH` lets nest in a member.
-const MOST_OPEN: usize = 126;
-
-/// What of a value is left after its first token.
-#[derive(Clone, Copy, Drop)]
-enum Rest {
-    Nothing,
-    // Nothing, and the value is a number that is held as a float.
-    Float,
-    Items,
-    Members,
-}
-
-/// Passes over the next value, whose lists and objects nest to at most `depth`, and returns whether a number in it is
-/// held as a float. The value's tree may have none even so: a later member of the same name may take the place of the
-/// one that the number is in. It takes no memory. Fails with `NotJson` only if there is no such value, and with
-/// `Unsure` where more than `MOST_OPEN` lists and objects are open.
-#[inline(always)]
-pub(crate) fn skip_value(reader: &mut Reader<'_>, depth: usize) -> Result<bool, SkipError>
-    ensures ok { IfOk result (λ floats. PassesValue floats depth reader.old reader.new) }
-    ensures err { result ≡ Err SkipError.NotJson → value_meant depth reader.old ≡ None }
-    ensures shorter { OnOk result (length reader.new < length reader.old) }
-{
-    match begin_value(reader)? {
-        Rest::Nothing => Ok(false),
-        Rest::Float => Ok(true),
-        Rest::Items => skip_rest(reader, depth, false),
-        Rest::Members => skip_rest(reader, depth, true),
-    }
-}
-
-/// Passes over the first token of a value.
+/// Passes over the next value, whose lists and objects nest to at most `depth`, and returns whether it has a float. A
+/// float that a later member of the same name replaces does not count. Fails with `NotJson` only if there is no such
+/// value. It takes no memory before the first float of an object, and then notes the names that come.
+#[cycle(skip)]
 #[tactic(auto, using(crate::proofs::SkippedValues::values))]
 #[inline(always)]
-fn begin_value(reader: &mut Reader<'_>) -> Result<Rest, SkipError>
-    ensures ok { IfOk result (λ rest. BeginsValue rest reader.old reader.new) }
-    ensures err { result ≡ Err SkipError.NotJson → (depth : ℕ) → value_meant depth reader.old ≡ None }
+pub(crate) fn skip_value<'r>(
+    alloc: Global,
+    reader: &mut Reader<'r>,
+    depth: usize,
+) -> Result<bool, ReadError>
+    ensures ok { IfOk result (λ float. PassesValue float depth reader.old reader.new) }
+    ensures err { result ≡ Err ReadError.NotJson → value_meant depth reader.old ≡ None }
     ensures shorter { OnOk result (length reader.new < length reader.old) }
 {
     let Some(token) = reader.next() else {
-        return Err(SkipError::NotJson);
+        return Err(ReadError::NotJson);
     };
+    skip_after(alloc, reader, depth, token)
+}
+
+/// The same after the first token of the value.
+#[cycle(skip)]
+#[tactic(auto, using(crate::proofs::SkippedValues::values))]
+#[inline(always)]
+pub(crate) fn skip_after<'r>(
+    alloc: Global,
+    reader: &mut Reader<'r>,
+    depth: usize,
+    token: Token<'r>,
+) -> Result<bool, ReadError>
+    ensures ok { IfOk result (λ float. PassesValue float depth (token_of token.entry ∷ reader.old) reader.new) }
+    ensures err { result ≡ Err ReadError.NotJson → value_meant depth (token_of token.entry ∷ reader.old) ≡ None }
+    ensures no_longer { OnOk result (length reader.new < length (token_of token.entry ∷ reader.old)) }
+{
     match token {
-        Token::Null | Token::Bool(_) | Token::String(_) => Ok(Rest::Nothing),
-        Token::Number(text) => {
-            if is_float(text)? {
-                return Ok(Rest::Float);
+        Token::Null | Token::Bool(_) | Token::String(_) => Ok(false),
+        Token::Number(text) => is_float(text),
+        Token::BeginArray => {
+            if depth == 0 {
+                return Err(ReadError::NotJson);
             }
-            Ok(Rest::Nothing)
+            skip_items(alloc, reader, depth - 1)
         }
-        Token::BeginArray => Ok(Rest::Items),
-        Token::BeginObject => Ok(Rest::Members),
-        Token::EndObject | Token::EndArray | Token::Key(_) | Token::Bad => {
-            Err(SkipError::NotJson)
+        Token::BeginObject => {
+            if depth == 0 {
+                return Err(ReadError::NotJson);
+            }
+            skip_members(alloc, reader, depth - 1)
         }
+        Token::EndObject | Token::EndArray | Token::Key(_) | Token::Bad => Err(ReadError::NotJson),
     }
 }
 
-/// Passes over the rest of a list or an object, after its bracket or brace. A loop: a call for each list and object
-/// that is nested in another takes longer.
+/// The elements of a list, after its opening bracket.
+#[cycle(skip)]
+#[tactic(auto, using(crate::proofs::SkippedValues::lists))]
 #[inline(never)]
-fn skip_rest(reader: &mut Reader<'_>, depth: usize, of_object: bool) -> Result<bool, SkipError>
-    ensures ok { IfOk result (λ floats. PassesValue floats depth (opening of_object ∷ reader.old) reader.new) }
-    ensures err { result ≡ Err SkipError.NotJson → value_meant depth (opening of_object ∷ reader.old) ≡ None }
+pub(crate) fn skip_items<'r>(
+    alloc: Global,
+    reader: &mut Reader<'r>,
+    depth: usize,
+) -> Result<bool, ReadError>
+    ensures ok { IfOk result (λ float. PassesItems float depth reader.old reader.new) }
+    ensures err { result ≡ Err ReadError.NotJson → items_meant depth reader.old ≡ None }
     ensures shorter { OnOk result (length reader.new < length reader.old) }
 {
-    let mut level = next_level(0, depth)?;
-    // Of each list and object that is open, the outermost first, whether it is an object.
-    let mut objects = [of_object; MOST_OPEN];
-    let mut floats = false;
-    'parts: loop {
-        if take_end(reader, objects[level - 1])? {
-            level -= 1;
-            if level == 0 {
-                return Ok(floats);
-            }
-            continue;
-        }
-        // An arm for each: with one for both, the program is slower.
-        match begin_value(reader)? {
-            Rest::Nothing => {}
-            Rest::Float => floats = true,
-            Rest::Items => {
-                let above = next_level(level, depth)?;
-                objects[level] = false;
-                level = above;
-            }
-            Rest::Members => {
-                let above = next_level(level, depth)?;
-                objects[level] = true;
-                level = above;
-            }
-        }
+    let mut float = false;
+    'items: while !reader.take_end_array() {
+        float |= skip_value(alloc, reader, depth)?;
     }
+    Ok(float)
 }
 
-/// How many are open if one more is.
-#[inline(always)]
-fn next_level(level: usize, depth: usize) -> Result<usize, SkipError>
-    ensures ok { IfOk result (λ next. (next ≡ level + 1) × (level < depth) × (level < MOST_OPEN)) }
-    ensures err { result ≡ Err SkipError.NotJson → depth ≤ level }
+/// The members of an object, after its opening brace.
+#[cycle(skip)]
+#[tactic(auto, using(crate::proofs::KeptMembers::passed))]
+#[inline(never)]
+fn skip_members<'r>(alloc: Global, reader: &mut Reader<'r>, depth: usize) -> Result<bool, ReadError>
+    ensures ok { IfOk result (λ float. PassesMembers float depth reader.old reader.new) }
+    ensures err { result ≡ Err ReadError.NotJson → members_meant depth reader.old ≡ None }
+    ensures shorter { OnOk result (length reader.new < length reader.old) }
 {
-    if level >= depth {
-        return Err(SkipError::NotJson);
+    let mut notes = Notes::new(alloc);
+    'members: while let Some(name) = reader.next_key()? {
+        let float = skip_value(alloc, reader, depth)?;
+        notes.add(name, float)?;
     }
-    if level >= MOST_OPEN {
-        return Err(SkipError::Unsure);
-    }
-    Ok(level + 1)
-}
-
-/// Takes the end of an object or a list if it is next, and else of an object the name of the next member.
-#[tactic(auto, using(crate::proofs::OpenValues::ends))]
-#[inline(always)]
-fn take_end(reader: &mut Reader<'_>, of_object: bool) -> Result<bool, SkipError>
-    ensures ok { IfOk result (λ is_over. TakesEnd of_object is_over reader.old reader.new) }
-    ensures err { result ≡ Err SkipError.NotJson → (of_object ≡ true) × (read_key reader.old ≡ None) }
-    ensures over { IfOk result (λ is_over. is_over ≡ true → length reader.new < length reader.old) }
-    ensures no_longer { OnOk result (length reader.new ≤ length reader.old) }
-{
-    if of_object {
-        Ok(reader.next_key()?.is_none())
-    } else {
-        Ok(reader.take_end_array())
-    }
+    Ok(notes.tell(alloc)?)
 }
 
 /// Whether a number is held as a float. One of few digits is an integer by its looks, and most have one. Any other is
 /// read.
-fn is_float(text: &str) -> Result<bool, SkipError>
+fn is_float(text: &str) -> Result<bool, ReadError>
     ensures ok { IfOk result (λ float. IsNumber float text.now) }
-    ensures err { result ≡ Err SkipError.NotJson → number_of text.now ≡ None }
+    ensures err { result ≡ Err ReadError.NotJson → number_of text.now ≡ None }
 {
     let bytes = text.as_bytes();
     if is_digit(bytes) || is_short_integer(bytes) {
@@ -155,13 +122,13 @@ fn is_float(text: &str) -> Result<bool, SkipError>
 
 #[tactic(auto, using(crate::proofs::ShortIntegers::one_digit))]
 fn is_digit(text: &[u8]) -> bool
-    ensures { IsTrue result → IsWhole text.now }
+    ensures { IsTrue result → IsNumber false text.now }
 {
     text.len() == 1 && text[0].is_ascii_digit()
 }
 
 fn is_short_integer(text: &[u8]) -> bool
-    ensures { IsTrue result → IsWhole text.now }
+    ensures { IsTrue result → IsNumber false text.now }
 {
     !text.is_empty() && text.len() <= FEW_DIGITS && are_decimal_digits(text)
 }
@@ -173,13 +140,10 @@ fn are_decimal_digits(text: &[u8]) -> bool
 }
 
 #[inline(never)]
-fn is_other_float(text: &str) -> Result<bool, SkipError>
+fn is_other_float(text: &str) -> Result<bool, ReadError>
     ensures ok { IfOk result (λ float. IsNumber float text.now) }
-    ensures err { result ≡ Err SkipError.NotJson → number_of text.now ≡ None }
+    ensures err { result ≡ Err ReadError.NotJson → number_of text.now ≡ None }
 {
-    let number = number_in(text).ok_or(SkipError::NotJson)?;
-    if number.is_f64() {
-        return Ok(true);
-    }
-    Ok(false)
+    let number = number_in(text).ok_or(ReadError::NotJson)?;
+    Ok(number.is_f64())
 }

@@ -1,53 +1,60 @@
 //! A list that is read as it comes: each element is read when its tokens have come, and no tree is made of the list.
-ghost use Rattle.std.specs.Prelude.{◌≡◌, ◌<◌, Some, false, length, map, IfOk, OnOk};
-ghost use Rattle.serde_json.specs.Written.{has_float};
-ghost use Rattle.sig_json.specs.Member.{list_each};
+ghost use Rattle.std.specs.Prelude.{◌≡◌, ◌<◌, None, Err, false, length, map, option_map, IfOk, IfSome, OnOk};
+ghost use Rattle.json.specs.Reads.{token_of};
+ghost use Rattle.serde_json.specs.Read.{read as tree_of};
 ghost use Rattle.sig_json.specs.NamedTree.{IsNamedTree, NamesAscend, HasNamedValues};
 ghost use Rattle.sig_json.specs.Only.{is_among, names_of};
-ghost use Rattle.sig_json.specs.Streamed.{StreamsValue, StreamsItems, StreamsMembers, StreamsOf};
+ghost use Rattle.sig_json.specs.Skipped.{value_meant, items_meant, members_meant};
+ghost use Rattle.sig_json.specs.Streamed.{StreamsElement, StreamsItems, StreamsList, StreamsMembers, StreamsOf};
+ghost use Rattle.sig_json.specs.Streamed.{with_element};
+ghost use Rattle.serde_json.specs.Written.{has_float};
 ghost use Rattle.sig_json.specs.View.{view, members_view};
 
 use crate::element::ElementReader;
-use crate::error::SkipError;
+use crate::error::{MemberError, ReadError};
 use crate::floats::is_float_in;
 use crate::kept::{MEMBER_DEPTH, take_value};
+use crate::notes::Notes;
 use crate::order::in_order;
 use crate::read::read_value;
+use crate::skip::{skip_after, skip_value};
 use crate::tree::{Entry, Tree};
 use crate::view::Json;
 use json::{Reader, Scratch, Token};
-use sig_base::OwnedList;
+use sig_base::{OutOfMemory, OwnedList};
 use std::alloc::Global;
 
-/// The members of these names of a text that is an object, and the elements of the list of the name `list`. It says
-/// nothing of a text that it fails for, unless memory ran out: the whole tree tells.
-#[tactic(auto, using(crate::proofs::StreamedLists::text_streamed))]
+/// The members of these names of a text that is an object, the elements of the list of the name `list`, and whether a
+/// member of another name than these has a float; none where the text is another value. There are no elements where
+/// that member is neither a list nor null, or an element is not of the kind or has a float. Fails with `NotJson` only
+/// if the text has no tree.
+#[tactic(auto, using(crate::proofs::StreamedLists::texts))]
 pub(crate) fn stream_text<'r, E: ElementReader>(
     alloc: Global,
     text: &'r str,
     names: &[&str],
     list: &str,
     scratch: &'r mut Scratch,
-) -> Result<(Vec<Entry<'r>>, OwnedList<E::Item>), SkipError>
+) -> Result<Option<(Vec<Entry<'r>>, Option<OwnedList<E::Item>>, bool)>, ReadError>
     requires { is_among (names_of names.now) list.now ≡ false }
-    ensures ok { IfOk result (λ parts. StreamsOf E.meaning (names_of names.now) list.now text.now
-        (members_view parts.0.items) (map E.seen_as.item parts.1)) }
-    ensures named { IfOk result (λ parts. NamesAscend (members_view parts.0.items)
-        × HasNamedValues (members_view parts.0.items)) }
+    ensures ok { IfOk result (λ found. IfSome found (λ parts. StreamsOf E.meaning (names_of names.now) list.now parts.2
+        text.now (members_view parts.0.items) (option_map (map E.seen_as.item) parts.1))) }
+    ensures err { result ≡ Err ReadError.NotJson → tree_of text.now ≡ None }
+    ensures named { IfOk result (λ found. IfSome found (λ parts. NamesAscend (members_view parts.0.items)
+        × HasNamedValues (members_view parts.0.items))) }
 {
     let mut reader = Reader::new(text, scratch)?;
     let Some(Token::BeginObject) = reader.next() else {
-        return Err(SkipError::Unsure);
+        return Ok(None);
     };
     let parts = stream_members::<E>(alloc, &mut reader, MEMBER_DEPTH, names, list)?;
     match reader.next() {
-        Some(_) => Err(SkipError::Unsure),
-        None => Ok(parts),
+        Some(_) => Err(ReadError::NotJson),
+        None => Ok(Some(parts)),
     }
 }
 
-/// The same after the opening brace. Of two lists of that name the last counts. Fails with `Unsure` at a number that is
-/// held as a float in a member of another name: a later member of that name may replace it.
+/// The same after the opening brace. Of two members of the name `list` the last counts.
 #[tactic(auto, using(crate::proofs::StreamedLists::parts))]
 fn stream_members<'r, E: ElementReader>(
     alloc: Global,
@@ -55,92 +62,128 @@ fn stream_members<'r, E: ElementReader>(
     depth: usize,
     names: &[&str],
     list: &str,
-) -> Result<(Vec<Entry<'r>>, OwnedList<E::Item>), SkipError>
+) -> Result<(Vec<Entry<'r>>, Option<OwnedList<E::Item>>, bool), ReadError>
     requires { is_among (names_of names.now) list.now ≡ false }
-    ensures ok { IfOk result (λ parts. StreamsMembers E.meaning (names_of names.now) list.now depth reader.old
-        reader.new (members_view parts.0.items) (map E.seen_as.item parts.1)) }
+    ensures ok { IfOk result (λ parts. StreamsMembers E.meaning (names_of names.now) list.now parts.2 depth reader.old
+        reader.new (members_view parts.0.items) (option_map (map E.seen_as.item) parts.1)) }
+    ensures err { result ≡ Err ReadError.NotJson → members_meant depth reader.old ≡ None }
     ensures named { IfOk result (λ parts. NamesAscend (members_view parts.0.items)
         × HasNamedValues (members_view parts.0.items)) }
 {
     let mut found = Vec::new(alloc);
-    let mut elements = OwnedList::new(alloc);
+    let mut notes = Notes::new(alloc);
+    let mut elements = Some(OwnedList::new(alloc));
     'members: while let Some(name) = reader.next_key()? {
         if name == list {
-            elements = stream_list::<E>(alloc, reader, depth)?;
+            let (listed, float) = stream_list::<E>(alloc, reader, depth)?;
+            elements = listed;
+            notes.add(name, float)?;
             continue;
         }
-        if take_value(alloc, reader, depth, names, name, &mut found)? {
-            return Err(SkipError::Unsure);
-        }
+        take_value(alloc, reader, depth, names, name, &mut found, &mut notes)?;
     }
+    let float = notes.tell(alloc)?;
     let mut ordered = in_order(alloc, found)?;
     ordered.shrink_to_fit();
-    Ok((ordered, elements))
+    Ok((ordered, elements, float))
 }
 
-/// The next value, which has to be a list.
+/// The next value as the member that the list is, and whether it has a float.
 #[tactic(auto, using(crate::proofs::StreamedLists::list_streamed))]
-fn stream_list<E: ElementReader>(
+fn stream_list<'r, E: ElementReader>(
     alloc: Global,
-    reader: &mut Reader<'_>,
+    reader: &mut Reader<'r>,
     depth: usize,
-) -> Result<OwnedList<E::Item>, SkipError>
-    ensures ok { IfOk result (λ found. StreamsValue (list_each E.meaning) depth reader.old reader.new
-        (map E.seen_as.item found)) }
+) -> Result<(Option<OwnedList<E::Item>>, bool), ReadError>
+    ensures ok { IfOk result (λ found. StreamsList E.meaning found.1 depth reader.old reader.new
+        (option_map (map E.seen_as.item) found.0)) }
+    ensures err { result ≡ Err ReadError.NotJson → value_meant depth reader.old ≡ None }
     ensures shorter { OnOk result (length reader.new < length reader.old) }
 {
-    let Some(Token::BeginArray) = reader.next() else {
-        return Err(SkipError::Unsure);
+    let Some(token) = reader.next() else {
+        return Err(ReadError::NotJson);
     };
-    if depth == 0 {
-        return Err(SkipError::Unsure);
+    match token {
+        Token::BeginArray => {
+            if depth == 0 {
+                return Err(ReadError::NotJson);
+            }
+            stream_items::<E>(alloc, reader, depth - 1)
+        }
+        Token::Null => Ok((Some(OwnedList::new(alloc)), false)),
+        _ => {
+            let float = skip_after(alloc, reader, depth, token)?;
+            Ok((None, float))
+        }
     }
-    stream_items::<E>(alloc, reader, depth - 1)
 }
 
-/// The elements of a list, after its opening bracket.
+/// The elements of a list, after its opening bracket, and whether one of them has a float.
 #[tactic(auto, using(crate::proofs::StreamedLists::items))]
-fn stream_items<E: ElementReader>(
+fn stream_items<'r, E: ElementReader>(
     alloc: Global,
-    reader: &mut Reader<'_>,
+    reader: &mut Reader<'r>,
     depth: usize,
-) -> Result<OwnedList<E::Item>, SkipError>
-    ensures ok { IfOk result (λ found. StreamsItems E.meaning depth reader.old reader.new
-        (map E.seen_as.item found)) }
+) -> Result<(Option<OwnedList<E::Item>>, bool), ReadError>
+    ensures ok { IfOk result (λ found. StreamsItems E.meaning found.1 depth reader.old reader.new
+        (option_map (map E.seen_as.item) found.0)) }
+    ensures err { result ≡ Err ReadError.NotJson → items_meant depth reader.old ≡ None }
     ensures shorter { OnOk result (length reader.new < length reader.old) }
 {
-    let mut found = OwnedList::new(alloc);
+    let mut found = Some(OwnedList::new(alloc));
+    let mut float = false;
     'elements: while !reader.take_end_array() {
-        let element = stream_element::<E>(alloc, reader, depth)?;
-        found.push(element)?;
+        let (more, held) = stream_element::<E>(alloc, reader, depth, found)?;
+        found = more;
+        float |= held;
     }
-    Ok(found)
+    Ok((found, float))
 }
 
-/// The next value as an element of the list. Its tree is dropped at once.
+/// The next value as one element more, and whether it has a float. Its tree is dropped at once. Once there are no
+/// elements, since one was not of the kind, values are passed over.
 #[tactic(auto, using(crate::proofs::StreamedLists::element_streamed))]
-fn stream_element<E: ElementReader>(
+fn stream_element<'r, E: ElementReader>(
     alloc: Global,
-    reader: &mut Reader<'_>,
+    reader: &mut Reader<'r>,
     depth: usize,
-) -> Result<E::Item, SkipError>
-    ensures ok { IfOk result (λ x. StreamsValue E.meaning depth reader.old reader.new (E.seen_as.item x)) }
+    found: Option<OwnedList<E::Item>>,
+) -> Result<(Option<OwnedList<E::Item>>, bool), ReadError>
+    ensures ok { IfOk result (λ more. StreamsElement E.meaning more.1 depth reader.old reader.new
+        (option_map (map E.seen_as.item) found) (option_map (map E.seen_as.item) more.0)) }
+    ensures err { result ≡ Err ReadError.NotJson → value_meant depth reader.old ≡ None }
     ensures shorter { OnOk result (length reader.new < length reader.old) }
 {
+    let Some(elements) = found else {
+        let float = skip_value(alloc, reader, depth)?;
+        return Ok((None, float));
+    };
     let value = read_value(alloc, reader, depth)?;
-    let element = element_of::<E>(alloc, &value);
-    drop(value);
-    element
+    if is_float_in(&value) {
+        return Ok((None, true));
+    }
+    let more = add_element::<E>(alloc, elements, &value)?;
+    Ok((more, false))
 }
 
-/// A tree without floats as an element of the list.
-fn element_of<E: ElementReader>(alloc: Global, value: &Tree<'_>) -> Result<E::Item, SkipError>
-    requires { IsNamedTree (view value.now) }
-    ensures whole { OnOk result (has_float (view value.now) ≡ false) }
-    ensures read { IfOk result (λ x. E.meaning (view value.now) ≡ Some (E.seen_as.item x)) }
+/// The elements, and a tree without floats as one more; none if it is not of the kind.
+#[tactic(auto, using(crate::proofs::StreamedLists::element_added))]
+fn add_element<E: ElementReader>(
+    alloc: Global,
+    mut elements: OwnedList<E::Item>,
+    value: &Tree<'_>,
+) -> Result<Option<OwnedList<E::Item>>, OutOfMemory>
+    requires named { IsNamedTree (view value.now) }
+    requires whole { has_float (view value.now) ≡ false }
+    ensures { IfOk result (λ more. option_map (map E.seen_as.item) more
+        ≡ with_element (E.meaning (view value.now)) (Some (map E.seen_as.item elements))) }
 {
-    if is_float_in(value) {
-        return Err(SkipError::Unsure);
+    match E::read(alloc, Json { value }) {
+        Ok(element) => {
+            elements.push(element)?;
+            Ok(Some(elements))
+        }
+        Err(MemberError::Member) => Ok(None),
+        Err(MemberError::OutOfMemory) => Err(OutOfMemory),
     }
-    Ok(E::read(alloc, Json { value })?)
 }
