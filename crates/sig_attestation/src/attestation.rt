@@ -57,7 +57,7 @@ struct Evidence {
 ///   [`validate_cosign_v1`](sig_dsse::InTotoStatementV1::validate_cosign_v1) says;
 /// - `SubjectDigest`: the first subject's SHA-256 is not `source_image_digest` without a leading `sha256:`;
 /// - `SignatureCount` with the number of signatures, which is not one;
-/// - `MaterialMissing`: there is no verification material, or it names no signer;
+/// - `MaterialMissing`: there is no verification material, or it does not name a signer;
 /// - `MaterialNotCertificate`: it is not a single certificate;
 /// - `EntryCount` with the number of log entries, which is not one;
 /// - `KeysMissing`: no keys of logs are given;

@@ -36,7 +36,7 @@ impl ElementReader for HashTextReader {
     }
 }
 
-/// Reads lists of one element, which is not looked at.
+/// Reads lists of one element, which is not checked.
 enum OneReader {}
 
 impl ElementReader for OneReader {

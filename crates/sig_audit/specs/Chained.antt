@@ -13,7 +13,7 @@ abbrev pub HaveGrownFrom : ChainHead → List ChainHead → Type 0
 HaveGrownFrom before [] = Unit {0}
 HaveGrownFrom before (head ∷ later) = HasGrownFrom before head × HaveGrownFrom head later
 
--- each of these heads except the first grew from the one before it; the hashes of the first are not looked at
+-- each of these heads except the first grew from the one before it; the hashes of the first are not checked
 abbrev pub HaveGrown : List ChainHead → Type 0
 HaveGrown [] = Unit {0}
 HaveGrown (first ∷ later) = HaveGrownFrom first later

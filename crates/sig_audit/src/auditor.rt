@@ -19,7 +19,7 @@ use std::alloc::Global;
 /// head.
 ///
 /// Each head has to be signed by the log, of the first head's origin, and its hashes have to show that its tree has
-/// that of the head before it as its first leaves; the hashes of the first head are not looked at. The hashes of each
+/// that of the head before it as its first leaves; the hashes of the first head are not checked. The hashes of each
 /// watch have to lead from its entry to the root of its head.
 ///
 /// Errors, the first that applies, of the heads in order and then of the watches in order; each keeps an index:

@@ -1,4 +1,4 @@
--- What `questions audit` writes: every signature that an audit can rest on.
+-- What `questions audit` writes: every signature that an audit can depend on.
 use Rattle.std.specs.Prelude.{◌≡◌, ◌⊎◌, ◌<◌, ℕ, List, [], ◌∷◌, ◌++◌, map, length, Option, Some, None}
 use Rattle.sig_audit.specs.declared.heads.AuditHead.{AuditHead}
 use Rattle.sig_base.specs.Scheme.{scheme_of}

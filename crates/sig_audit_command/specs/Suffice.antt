@@ -1,5 +1,5 @@
 -- Nothing else matters: of a request's accepted signatures, only those that the heads ask for decide its reply, also
--- where no list was written; and a list that is written fits one request with the request that it is of.
+-- where no list was written; and a list that is written fits one request with the request that it is for.
 use Rattle.std.specs.Prelude.{◌≡◌, ◌≤◌, ◌↔◌, ℕ, List, ◌++◌, Contains, length}
 use Rattle.sig_audit.specs.declared.heads.AuditHead.{AuditHead}
 use Rattle.sig_base.specs.declared.checker.AcceptedRow.{AcceptedRow}

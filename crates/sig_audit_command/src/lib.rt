@@ -6,8 +6,8 @@
 //! ```
 //!
 //! The layer above uses three facts. [`audit_reply`] makes the reply that is defined: the success line if and only if
-//! every link holds, else the first link that fails. [`audit_questions`] lists the signatures that it can rest on. And
-//! nothing but these matters.
+//! every link holds, else the first link that fails. [`audit_questions`] lists the signatures that it can depend on.
+//! And nothing but these matters.
 #![tactic(auto)]
 
 mod audit;

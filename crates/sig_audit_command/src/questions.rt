@@ -1,4 +1,4 @@
-//! The command `questions audit`: which signatures can the reply of `audit` rest on?
+//! The command `questions audit`: which signatures can the reply of `audit` depend on?
 ghost use Rattle.std.specs.Prelude.{ℕ, IfOk, List};
 ghost use Rattle.sig_audit_command.specs.Questions.{IsAuditQuestionsReply, audit_rows};
 ghost use Rattle.sig_audit_command.specs.Suffice.{AuditListsAreGivenBack, AuditQuestionsSuffice};
@@ -22,7 +22,7 @@ use std::alloc::Global;
 /// matter. Fails only if out of memory.
 ///
 /// For two requests that differ only in accepted signatures that are not asked for, `audit` has the same reply, also
-/// where no list is written. And a list that is written fits one request with the request that it is of.
+/// where no list is written. And a list that is written fits one request with the request that it is for.
 pub fn audit_questions(alloc: Global, request: &[u8]) -> Result<Reply, OutOfMemory>
     ensures reply { IfOk result (IsAuditQuestionsReply request.now) }
     ensures suffice { AuditQuestionsSuffice }

@@ -18,7 +18,7 @@ use sig_base::{Entries, OutOfMemory, Text};
 use sig_reply::{collision_text, other_text};
 use std::alloc::Global;
 
-/// Returns the second line of a reply to audited heads and watched entries, empty if the request gives no entries:
+/// Returns the second line of a reply to audited heads and watched entries, empty if the request does not give entries:
 ///
 /// - `other list` if the entries are not those of the last head: their number is not its size, or their RFC 6962 root
 ///   is not its root;

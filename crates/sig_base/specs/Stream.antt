@@ -1,4 +1,4 @@
--- What a source gives and a sink takes, and what a fault of either rests on. A source means the bytes that it has
+-- What a source gives and a sink takes, and what a fault of either depends on. A source means the bytes that it has
 -- left, a sink those that it took so far, if it tells them; and each has a count of faults.
 use Rattle.std.specs.Prelude.{◌≡◌, ℕ, ◌+◌, ◌-◌, ◌^◌, ◌<◌, ◌≤◌, min, List, [], ◌∷◌, ◌++◌, length, ⊤, Option, None}
 use Rattle.std.specs.Prelude.{Some, Result, IfOk, OnErr}

@@ -1,4 +1,4 @@
-//! `SigstoreError`: the error of the calls that bear the crate's names.
+//! `SigstoreError`: the error of the calls that have the crate's names.
 use crate::fault::{CheckpointFault, PkiFault, PoolError, TokenFault, TrustPart};
 use crate::memory::OutOfMemory;
 use crate::merkle_error::MerkleProofError;
@@ -30,7 +30,7 @@ pub enum SigstoreError {
     PublicKeyVerificationError,
     /// Bytes are not a SubjectPublicKeyInfo.
     KeyParsingError,
-    /// The checker accepts none of a checkpoint's signatures.
+    /// The checker does not accept any of a checkpoint's signatures.
     CheckpointSignatureVerificationError,
     /// The certificate is valid from this second since 1970 on, which is later than now.
     CertificateValidityError(i64),

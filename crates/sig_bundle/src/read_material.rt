@@ -15,7 +15,7 @@ use sig_json::{
 };
 use std::alloc::Global;
 
-/// Reads hints at keys: objects whose members are not looked at.
+/// Reads hints at keys: objects whose members are not checked.
 enum KeyHintReader {}
 
 impl ElementReader for KeyHintReader {

@@ -77,13 +77,13 @@ pub record HasProof (entry : TransparencyLogEntry) : Type 0 where
   pub text : List ℕ
   pub checkpoint : proof.checkpoint ≡ Some text
 
--- what a version demands of the log entry
+-- what a version requires of the log entry
 abbrev pub IsMet : Version → TransparencyLogEntry → Type 0
 IsMet Bundle0_1 entry = HasPromise entry
 IsMet Bundle0_2 entry = HasProof entry
 IsMet Bundle0_3 entry = HasProof entry
 
--- the bundle has all that its version demands of a signature with certificates and a log entry
+-- the bundle has all that its version requires of a signature with certificates and a log entry
 pub record IsPassed (bundle : Bundle) (c : Checked) : Type 0 where
   pub material : VerificationMaterial
   pub brought : bundle.verification_material ≡ Some material

@@ -1,4 +1,4 @@
--- What a bundle's media type demands of its log entries (sigstore_bundle.proto, the comments on media_type and
+-- What a bundle's media type requires of its log entries (sigstore_bundle.proto, the comments on media_type and
 -- tlog_entries).
 use Rattle.std.specs.Prelude.{ℕ, List, [], ◌∷◌, length, Option, Some, None, Result, Ok, Err}
 use Rattle.sig_checked_bundle.specs.declared.bundle_error.BundleErrorKind.{BundleErrorKind}
@@ -35,7 +35,7 @@ abbrev pub lacks_promise : Option (List ℕ) → Option BundleProfileErrorKind
 lacks_promise None = Some (Bundle01Profile InclusionPromiseMissing)
 lacks_promise (Some promise) = None
 
--- the first that the entry lacks of what the version demands
+-- the first that the entry lacks of what the version requires
 abbrev pub lacks : Version → TransparencyLogEntry → Option BundleProfileErrorKind
 lacks Bundle0_1 entry = lacks_promise entry.inclusion_promise
 lacks Bundle0_2 entry = lacks_proof entry.inclusion_proof
@@ -45,11 +45,11 @@ abbrev pub unless_lacking : Option BundleProfileErrorKind → Result (Unit {0}) 
 unless_lacking None = Ok tt
 unless_lacking (Some lacking) = Err (BundleProfile lacking)
 
--- the entry has what the version demands; a media type that does not name a version is unknown
+-- the entry has what the version requires; a media type that does not name a version is unknown
 abbrev pub meets_version : List ℕ → Option Version → TransparencyLogEntry → Result (Unit {0}) BundleErrorKind
 meets_version media_type None entry = Err (BundleProfile (Unknown media_type))
 meets_version media_type (Some version) entry = unless_lacking (lacks version entry)
 
--- the entry has what the media type demands
+-- the entry has what the media type requires
 abbrev pub meets_profile : List ℕ → TransparencyLogEntry → Result (Unit {0}) BundleErrorKind
 meets_profile media_type entry = meets_version media_type (version_of media_type) entry

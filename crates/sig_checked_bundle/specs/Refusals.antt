@@ -109,7 +109,7 @@ pub record HasVersion (b : Bundle) : Type 0 where
 
 -- ---- each error, by the first rule that does not hold
 
--- the version demands an inclusion proof with a checkpoint
+-- the version requires an inclusion proof with a checkpoint
 abbrev pub DemandsProof : Version → Type 0
 DemandsProof Bundle0_1 = ⊥
 DemandsProof Bundle0_2 = ⊤

@@ -71,10 +71,10 @@ pub enum BundleErrorKind {
 /// Why a log entry does not have what a bundle's media type requires.
 #[derive(Debug, Drop, PartialEq, Eq, Error)]
 pub enum BundleProfileErrorKind {
-    /// What version 0.1 demands is not there.
+    /// What version 0.1 requires is not there.
     #[error("Bundle01Profile")]
     Bundle01Profile(Bundle01ProfileErrorKind),
-    /// What the versions 0.2 and 0.3 demand is not there.
+    /// What the versions 0.2 and 0.3 require is not there.
     #[error("Bundle02Profile")]
     Bundle02Profile(Bundle02ProfileErrorKind),
     /// No profile is known for this media type.
@@ -82,7 +82,7 @@ pub enum BundleProfileErrorKind {
     Unknown(Text),
 }
 
-/// What version 0.1 demands of a log entry and is not there.
+/// What version 0.1 requires of a log entry and is not there.
 #[derive(Clone, Copy, Debug, PartialEq, Eq, Error)]
 pub enum Bundle01ProfileErrorKind {
     /// The log's promise.
@@ -90,7 +90,7 @@ pub enum Bundle01ProfileErrorKind {
     InclusionPromiseMissing,
 }
 
-/// What the versions 0.2 and 0.3 demand of a log entry and is not there.
+/// What the versions 0.2 and 0.3 require of a log entry and is not there.
 #[derive(Clone, Copy, Debug, PartialEq, Eq, Error)]
 pub enum Bundle02ProfileErrorKind {
     /// The proof that the log's tree has the entry.

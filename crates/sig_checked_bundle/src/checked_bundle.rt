@@ -119,7 +119,7 @@ impl CheckedBundle {
     /// (Rekor), that has `input_digest`, the artifact's SHA-256, in lower-case hexadecimal, the signature, and the PEM
     /// of the signing certificate (RFC 7468 section 5.1), and no other member. The body of an envelope's entry is one
     /// of kind `dsse`, version 0.0.1: its hashes are the SHA-256 of the envelope's text and of the payload, its first
-    /// signature is the envelope's, and the verifier of that is that PEM; `input_digest` is not looked at.
+    /// signature is the envelope's, and the verifier of that is that PEM; `input_digest` is not checked.
     pub fn tlog_entry(
         &self,
         alloc: Global,

@@ -18,7 +18,7 @@ use std::alloc::Global;
 /// What the signature of a bundle has to be over.
 #[derive(Drop)]
 pub enum CheckedContent {
-    /// An artifact itself, by its SHA-256 digest. The digest that the bundle says it has is not looked at.
+    /// An artifact itself, by its SHA-256 digest. The digest that the bundle says it has is not checked.
     MessageSignature,
     /// A statement about artifacts, in an envelope.
     Dsse {

@@ -1,4 +1,4 @@
-//! The log entry of a bundle, and what the bundle's media type demands of it.
+//! The log entry of a bundle, and what the bundle's media type requires of it.
 
 ghost use Rattle.std.specs.Prelude.{◌≡◌, ◌⊎◌};
 ghost use Rattle.sig_base.specs.Answers.{Answers};
@@ -24,7 +24,7 @@ pub(crate) fn check_entry(entries: &LogEntries) -> Result<&TransparencyLogEntry,
     }
 }
 
-/// The link `profile`: whether the entry has what the media type demands, under version 0.1 the log's promise to
+/// The link `profile`: whether the entry has what the media type requires, under version 0.1 the log's promise to
 /// include it, under 0.2 and 0.3 an inclusion proof with a checkpoint.
 ///
 /// Fails with `BundleProfile` of `Unknown` if and only if the media type names no version; then with that of
@@ -45,7 +45,7 @@ pub(crate) fn check_profile(
     }
 }
 
-/// The first that a log entry lacks of what the version demands.
+/// The first that a log entry lacks of what the version requires.
 fn lacks(version: Version, entry: &TransparencyLogEntry) -> Option<BundleProfileErrorKind>
     ensures { result ≡ lacks version entry.now }
 {

@@ -37,7 +37,7 @@ impl<C: SignatureChecker + Drop> CertificateVerifier<C> {
     /// Returns the constraint that a layer is signed by the key of the certificate that the bytes (DER) are.
     /// `require_rekor_bundle` says whether a layer that no log has is rejected; it should be `true`, since without a
     /// log nothing says when the layer was signed. `cert_chain` are the trust anchors (DER) that may have issued the
-    /// certificate; without it the certificate is trusted by itself, and the end of its validity is not looked at.
+    /// certificate; without it the certificate is trusted by itself, and the end of its validity is not checked.
     /// `now` is in seconds since 1970.
     ///
     /// Errors, the first that applies:

@@ -163,7 +163,7 @@ pub(crate) fn profile_name(error: &BundleProfileErrorKind) -> &'static str
     }
 }
 
-/// The name of what version 0.1 demands and is not there.
+/// The name of what version 0.1 requires and is not there.
 pub(crate) fn profile_01_name(error: &Bundle01ProfileErrorKind) -> &'static str
     ensures { result.now ≡ profile_01_name error.now }
 {
@@ -172,7 +172,7 @@ pub(crate) fn profile_01_name(error: &Bundle01ProfileErrorKind) -> &'static str
     }
 }
 
-/// The name of what the versions 0.2 and 0.3 demand and is not there.
+/// The name of what the versions 0.2 and 0.3 require and is not there.
 pub(crate) fn profile_02_name(error: &Bundle02ProfileErrorKind) -> &'static str
     ensures { result.now ≡ profile_02_name error.now }
 {

@@ -1,4 +1,4 @@
--- What `questions gate` writes: every signature that the reply of `gate` can rest on.
+-- What `questions gate` writes: every signature that the reply of `gate` can depend on.
 use Rattle.std.specs.Prelude.{◌≡◌, ◌⊎◌, ◌↔◌, ℕ, ◌^◌, ◌≤◌, List, [], ◌∷◌, ◌++◌, map, length, Contains}
 use Rattle.std.specs.Prelude.{Option, Some, None}
 use Rattle.std.specs.List.{AllByRecursion}

@@ -1,5 +1,5 @@
 -- Nothing else matters: of a manifest's accepted signatures, only those that the bundles ask for decide its reply,
--- also where no list was written; and a list that is written fits one request with the manifest that it is of.
+-- also where no list was written; and a list that is written fits one request with the manifest that it is for.
 use Rattle.std.specs.Prelude.{◌≡◌, ◌≤◌, ◌↔◌, ℕ, List, ◌++◌, Contains, length}
 use Rattle.sig_base.specs.declared.checker.AcceptedRow.{AcceptedRow}
 use Rattle.sig_gate_command.specs.Questions.{AreGateRows, AsksFor, IsGateQuestionsReply, each_once, gate_inputs}

@@ -10,8 +10,8 @@
 //! ```
 //!
 //! The layer above uses four facts. [`gate_reply`] makes the reply that is defined: the report of the verdicts, or
-//! `refused request` if and only if the text is not a manifest. [`report_reply`] makes it of verdicts that a caller has.
-//! [`gate_questions`] lists the signatures that the reply can rest on, each once. And nothing but these matters.
+//! `refused request` if and only if the text is not a manifest. [`report_reply`] makes it of verdicts that a caller
+//! has. [`gate_questions`] lists the signatures that the reply can depend on, each once. And nothing but these matters.
 #![tactic(auto)]
 
 mod asked_roots;

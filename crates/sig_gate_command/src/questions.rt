@@ -1,4 +1,4 @@
-//! The command `questions gate`: which signatures can the reply of `gate` rest on?
+//! The command `questions gate`: which signatures can the reply of `gate` depend on?
 ghost use Rattle.std.specs.Prelude.{IfOk};
 ghost use Rattle.sig_gate_command.specs.Questions.{IsGateQuestionsReply};
 ghost use Rattle.sig_gate_command.specs.Request.{IsGateText, parts_of};
@@ -27,7 +27,7 @@ pub const MOST_ASKED: usize = 67_108_864;
 /// matter. Fails only if out of memory.
 ///
 /// For two manifests that differ only in accepted signatures that are not asked for, `gate` has the same reply, also
-/// where no list is written. And a list that is written fits one request with the manifest that it is of.
+/// where no list is written. And a list that is written fits one request with the manifest that it is for.
 pub fn gate_questions(alloc: Global, request: &[u8]) -> Result<Reply, OutOfMemory>
     ensures reply { IfOk result (IsGateQuestionsReply request.now) }
     ensures suffice { GateQuestionsSuffice }

@@ -21,8 +21,8 @@
 //!   `consistency_walks` say that the walks lead where the standard's recursions do.
 //! - `recursion`: those recursions as plain programs, line by line beside the standard. No check
 //!   calls them: they stay so that a test can run both and see that the faster body kept the meaning.
-//! - `uncounted`: the same checks, by the same bodies, for a caller that counts no steps. There are
-//!   two since a counter needs a ledger, which the crates above would have to hand down for nothing.
+//! - `uncounted`: the same checks, by the same bodies, for a caller that does not count steps. There are two since a
+//!   counter needs a ledger, which the crates above would have to hand down for nothing.
 //! - `laws`: what the definitions mean, in the standard's own words. It has no code.
 #![tactic(auto)]
 

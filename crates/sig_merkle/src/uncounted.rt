@@ -1,4 +1,4 @@
-//! The checks of proofs, and the roots of a list and of its front, for a caller that counts no steps.
+//! The checks of proofs, and the roots of a list and of its front, for a caller that does not count steps.
 ghost use Rattle.std.specs.Prelude.{◌≡◌, ◌<◌, ◌≤◌, ◌↔◌, length, map, take, IsOk, IfOk};
 ghost use Rattle.std.specs.List.{AllByRecursion};
 ghost use Rattle.sig_merkle.specs.Inclusion.{IsIncluded, inclusion_answer, IsInclusionAnswer};

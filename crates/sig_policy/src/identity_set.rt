@@ -1,4 +1,4 @@
-//! The identities that a certificate names, each found without a look at the others.
+//! The identities that a certificate names, each found without going over the others.
 
 ghost use Rattle.std.specs.Prelude.{◌≡◌, ℕ, List, option_map, map, IfOk};
 ghost use Rattle.sig_policy.specs.Identities.{is_among_identities};

@@ -1,4 +1,5 @@
--- What `questions log` and `questions consistency` write: every signature that the tree head of a request can rest on.
+-- What `questions log` and `questions consistency` write: every signature that the tree head of a request can depend
+-- on.
 use Rattle.std.specs.Prelude.{◌≡◌, ℕ, List, [], ◌∷◌, map, Option, Some, None}
 use Rattle.sig_base.specs.declared.checker.AcceptedRow.{AcceptedRow}
 use Rattle.sig_json.specs.Data.{Data}

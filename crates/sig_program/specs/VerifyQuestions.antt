@@ -1,4 +1,4 @@
--- What `questions verify` writes: every signature that the chain of trust of a request of `verify` can rest on.
+-- What `questions verify` writes: every signature that the chain of trust of a request of `verify` can depend on.
 use Rattle.std.specs.Prelude.{◌≢◌, ◌↔◌, ℕ, List, ◌∷◌}
 use Rattle.std.specs.List.{AllByRecursion}
 use Rattle.sig_base.specs.Rules.{FailsFirst}

@@ -19,17 +19,17 @@ pub enum Command {
     Witness,
     /// `gate`: which of these artifacts are to be admitted?
     Gate,
-    /// `questions log`: which signatures can the reply of `log` rest on?
+    /// `questions log`: which signatures can the reply of `log` depend on?
     LogQuestions,
-    /// `questions verify`: which signatures can the reply of `verify` rest on?
+    /// `questions verify`: which signatures can the reply of `verify` depend on?
     VerifyQuestions,
-    /// `questions consistency`: which signatures can the reply of `consistency` rest on?
+    /// `questions consistency`: which signatures can the reply of `consistency` depend on?
     ConsistencyQuestions,
-    /// `questions audit`: which signatures can the reply of `audit` rest on?
+    /// `questions audit`: which signatures can the reply of `audit` depend on?
     AuditQuestions,
-    /// `questions witness`: which signatures can the reply of `witness` rest on?
+    /// `questions witness`: which signatures can the reply of `witness` depend on?
     WitnessQuestions,
-    /// `questions gate`: which signatures can the reply of `gate` rest on?
+    /// `questions gate`: which signatures can the reply of `gate` depend on?
     GateQuestions,
 }
 

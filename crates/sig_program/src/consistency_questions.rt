@@ -1,4 +1,4 @@
-//! The command `questions consistency`: which signatures can the reply of `consistency` rest on?
+//! The command `questions consistency`: which signatures can the reply of `consistency` depend on?
 ghost use Rattle.std.specs.Prelude.{IfOk};
 ghost use Rattle.sig_program.specs.Reply.{IsReply};
 ghost use Rattle.sig_program.specs.Suffice.{ConsistencyQuestionsSuffice};

@@ -1,4 +1,4 @@
-//! The command `questions log`: which signatures can the reply of `log` rest on?
+//! The command `questions log`: which signatures can the reply of `log` depend on?
 ghost use Rattle.std.specs.Prelude.{IfOk};
 ghost use Rattle.sig_program.specs.Reply.{IsReply};
 ghost use Rattle.sig_program.specs.Suffice.{LogQuestionsSuffice};

@@ -87,11 +87,11 @@ impl From<OutOfMemory> for NoReply {
 /// verified, and how many artifacts are admitted, with status 0 if all are, else 1; or `refused request` with status 2.
 ///
 /// `questions log`, `questions verify`, `questions consistency`, `questions audit`, `questions witness` and `questions
-/// gate` read a request of the command, and list the signatures that its reply can rest on, as a JSON list in the form
-/// of `accepted`, with status 0; else `refused NAME` for the first link that fails whatever signatures are accepted,
-/// and `refused request` if the bytes of the request, of the list and of `,"accepted":` would be more than 2^24
-/// together, and for `gate` also if the signatures, each counted as often as a bundle asks for it, have more than 2^26
-/// bytes.
+/// gate` read a request of the command, and list the signatures that its reply can depend on, as a JSON list in the
+/// form of `accepted`, with status 0; else `refused NAME` for the first link that fails whatever signatures are
+/// accepted, and `refused request` if the bytes of the request, of the list and of `,"accepted":` would be more than
+/// 2^24 together, and for `gate` also if the signatures, each counted as often as a bundle asks for it, have more than
+/// 2^26 bytes.
 ///
 /// `explain` before one of the first six commands reads the same request, and writes the lines of the command's reply,
 /// with its status; then, as the last line, what the links were about: for the first that fails, its name, why it fails

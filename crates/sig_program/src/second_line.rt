@@ -22,7 +22,7 @@ use sig_reply::{collision_text, other_text};
 use sig_request::ConsistencyRequest;
 use std::alloc::Global;
 
-/// Returns the second line of a reply of `log` or `verify`, empty if the request gives no entries:
+/// Returns the second line of a reply of `log` or `verify`, empty if the request does not give entries:
 ///
 /// - `other list` if the entries are not those of the proof's tree: their number is not its size, or their RFC 6962
 ///   root is not its root;
@@ -83,7 +83,7 @@ fn are_of_proof(entries: &Entries, proof: &InclusionProof) -> bool
     true
 }
 
-/// Returns the second line of a reply of `consistency`, empty if the request gives no entries:
+/// Returns the second line of a reply of `consistency`, empty if the request does not give entries:
 ///
 /// - `other list` if the entries are not those of the new tree: their number is not its size, or their RFC 6962 root
 ///   is not its root;

@@ -1,4 +1,4 @@
-//! The command `questions verify`: which signatures can the reply of `verify` rest on?
+//! The command `questions verify`: which signatures can the reply of `verify` depend on?
 ghost use Rattle.std.specs.Prelude.{◌≡◌, ◌↔◌, ℕ, All, Contains, IfOk, List};
 ghost use Rattle.sig_base.specs.declared.checker.AcceptedRow.{AcceptedRow as row_type};
 ghost use Rattle.sig_questions.specs.Asked.{IsAskedBy};

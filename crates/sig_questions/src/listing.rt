@@ -78,7 +78,7 @@ impl From<AllocError> for NoQuestions {
     }
 }
 
-/// Lists the signatures that the chain of trust of a bundle can rest on, as rows of a table of accepted signatures. A
+/// Lists the signatures that the chain of trust of a bundle can depend on, as rows of a table of accepted signatures. A
 /// caller asks its cryptography of each row whether the signature is genuine, makes a
 /// [`TableChecker`](sig_base::TableChecker) of the rows that are, and calls
 /// [`verify_offline`](sig_verify::verify_offline) with it: no other row matters, whatever the policy.

@@ -21,7 +21,7 @@ abbrev pub operation_in : Data → Option Operation
 operation_in d = member_in (codes "operation") d >>= operation_kind
 
 -- the scheme: a scheme's name for a message and a digest, nothing for a point, and an algorithm element for a
--- certificate; without an operation the row of the operation is broken, and this one is not looked at
+-- certificate; without an operation the row of the operation is broken, and this one is not checked
 abbrev pub scheme_row : Option Operation → Row
 scheme_row None = optional_row (codes "scheme") nothing_table
 scheme_row (Some Message) = required_row (codes "scheme") scheme_table

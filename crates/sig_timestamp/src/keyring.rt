@@ -13,7 +13,7 @@ use std::alloc::Global;
 use std::collections::BTreeMap;
 use std::marker::Model;
 
-/// The keys of Certificate Transparency logs, each found by its id without a look at the others (RFC 6962 section
+/// The keys of Certificate Transparency logs, each found by its id without going over the others (RFC 6962 section
 /// 3.2). Contracts see the list of its entries; `point_at` is the point that it has for an id.
 #[derive(Drop)]
 pub struct Keyring {

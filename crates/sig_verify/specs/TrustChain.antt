@@ -41,7 +41,7 @@ pub record TrustChain (o : Outside) (i : Inputs) : Type 0 where
   -- the audit path of p leads from the body of e to the root of p
   pub inclusion : OfLogged i (λ keys e. OfProof e (IsLed e))
 
--- all else that the links ask: each text, list and member is what its format demands
+-- all else that the links ask: each text, list and member is what its format requires
 pub record IsValid (o : Outside) (i : Inputs) : Type 0 where
   pub root_json : OfRoot i (λ root. Unit {0})
   pub bundle_json : OfBundle i (λ b. Unit {0})

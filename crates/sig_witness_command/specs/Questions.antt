@@ -1,4 +1,4 @@
--- What `questions witness` writes: every signature that the reply of `witness` can rest on.
+-- What `questions witness` writes: every signature that the reply of `witness` can depend on.
 use Rattle.std.specs.Prelude.{◌≡◌, ◌⊎◌, ◌↔◌, ℕ, Bool, if◌then◌else◌, List, [], ◌∷◌, ◌++◌, map, Option, Some, None}
 use Rattle.std.specs.Option.{option_map}
 use Rattle.sig_base.specs.ByText.{text_lookup}

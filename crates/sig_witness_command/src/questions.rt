@@ -1,4 +1,4 @@
-//! The command `questions witness`: which signatures can the reply of `witness` rest on?
+//! The command `questions witness`: which signatures can the reply of `witness` depend on?
 ghost use Rattle.std.specs.Prelude.{IfOk};
 ghost use Rattle.sig_request.specs.ReadFrom.{IsRequestOf};
 ghost use Rattle.sig_witness_command.specs.Questions.{IsNotesReply, IsWitnessQuestionsReply};
@@ -22,7 +22,7 @@ use std::alloc::Global;
 /// signatures the request itself accepts does not matter. Fails only if out of memory.
 ///
 /// For two requests that differ only in accepted signatures that are not asked for, `witness` has the same reply, also
-/// where no list is written. And a list that is written fits one request with the request that it is of.
+/// where no list is written. And a list that is written fits one request with the request that it is for.
 pub fn witness_questions(alloc: Global, request: &[u8]) -> Result<Reply, OutOfMemory>
     ensures reply { IfOk result (IsWitnessQuestionsReply request.now) }
     ensures suffice { WitnessQuestionsSuffice }
