@@ -21,8 +21,8 @@ use std::alloc::Global;
 /// holds, and the second line where the request gives the log's entries, else `refused NAME` for the first that fails,
 /// with status 2 for the link `request` and 1 for every other. Fails only if out of memory.
 ///
-/// The second line is `prefix M` of every list of the log between equal sizes and from the empty tree; and of two older
-/// trees of one new tree one is a front of the other, or a second line shows a collision.
+/// The second line is `prefix M` for every list of the log between equal sizes and from the empty tree; and of two
+/// older trees of one new tree one is a prefix of the other, or a second line shows a collision.
 pub fn consistency_reply(alloc: Global, request: &[u8]) -> Result<Reply, OutOfMemory>
     ensures reply { IfOk result (IsReply Consistency request.now) }
     ensures trivial { TrivialFronts }

@@ -22,7 +22,7 @@ use std::alloc::Global;
 pub fn demo_request(alloc: Global, count: u64) -> Result<Bytes, OutOfMemory>
     requires some { 1 ≤ count }
     requires most { count ≤ 4096 }
-    // The document is the object that is defined, and its members mean the request that is defined.
+    // The document is the object of the definition, and its members mean the request of the definition.
     ensures document { IfOk result (λ text. document_of text ≡ Ok (request_tree (demo_log count))) }
     ensures members { IfOk result (λ _.
         log_request (request_tree (demo_log count)) ≡ Some (request_of (demo_log count))) }

@@ -5,7 +5,7 @@
 //! {"cause":["ConsistencyProofError","MismatchedRoot"],"link":"note-match","note":{..},"proof":{..}}
 //! ```
 //!
-//! A module for each command that has its own links makes reply and explanation of one reading of the request, and so
+//! A module for each command that has its own links makes reply and explanation from one reading of the request, and so
 //! does the crate of `explain gate`; those of `audit` and `witness` are made by the crates of these commands.
 ghost use Rattle.std.specs.Prelude.{◌≡◌, IfOk};
 ghost use Rattle.sig_program.specs.ExplainedReply.{IsExplained, long_explained};

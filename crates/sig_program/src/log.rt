@@ -17,7 +17,7 @@ use sig_request::LogRequest;
 use sig_verify::Link;
 use std::alloc::Global;
 
-/// Returns the reply to a request's text: `logged I N` with status 0 if every link holds, and the second line where the
+/// Returns the reply to a request's text: `logged I N` with status 0 if every link holds, and the second line if the
 /// request gives the log's entries, else `refused NAME` for the first link that fails, with status 2 for the link
 /// `request` and 1 for every other. Fails only if out of memory.
 pub fn log_reply(alloc: Global, request: &[u8]) -> Result<Reply, OutOfMemory>

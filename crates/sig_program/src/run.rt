@@ -41,7 +41,7 @@ use sig_verify::Link;
 use sig_witness_command::{witness_questions, witness_reply};
 use std::alloc::Global;
 
-/// The status for words that ask for nothing (EX_USAGE of sysexits.h).
+/// The status for words that do not ask for anything (EX_USAGE of sysexits.h).
 pub const USAGE: u8 = 64;
 
 /// The status for out of memory (EX_OSERR).
@@ -73,7 +73,7 @@ impl From<OutOfMemory> for NoReply {
 /// A command reads a request, at most 2^24 + 1 bytes of what the source has left, and writes one line: `logged I N` for
 /// `log`, `verified I N` for `verify`, `consistent M N` for `consistency` and `audited K W N` for `audit`, with status
 /// 0, if every link of the command holds, else `refused NAME` for the first that fails, with status 1, or 2 for the
-/// link `request`; of `audit` a link other than `request` has the index of its head or watched entry after its name.
+/// link `request`; for `audit` a link other than `request` has the index of its head or watched entry after its name.
 /// With status 0 a second line follows if the request gives the log's entries: if they have the size and the RFC 6962
 /// root that the links are about, `entry I` for `log` and `verify`, and the logged body is the entry at the index I, or
 /// `prefix M` for `consistency`, and the old root is that of the first M entries, M being the old size, or `prefixes K`
@@ -99,9 +99,9 @@ impl From<OutOfMemory> for NoReply {
 /// bundle. The line is one JSON object without white space, whose members come in byte order.
 ///
 /// `demo N`, N from 1 to 4096 in decimal without leading zeros, reads nothing, and writes three lines with status 0:
-/// `entries N`, `root HEX` and `logged I N`, of [`demo`].
+/// `entries N`, `root HEX` and `logged I N`, as [`demo`] says.
 ///
-/// The reply is whole before its first byte is written, and each write is given all that is left of it. Other
+/// The reply is complete before its first byte is written, and each write is given all that is left of it. Other
 /// statuses:
 ///
 /// - 64: the words are none of these. Nothing is read, no memory is taken (no call on the way has the allocator), and

@@ -6,8 +6,8 @@ ghost use Rattle.sig_program.specs.Run.{AppendsFront, HandsRests};
 
 use sig_base::{Failed, Sink};
 
-/// Writes all the bytes, and hands over all that are left at each call. After `Failed`, which comes only if the sink's
-/// count of faults rose, a prefix of them was written.
+/// Writes all the bytes, and gives the sink all that are left at each call. After `Failed`, which comes only if the
+/// sink's count of faults rose, a prefix of them was written.
 #[tactic(auto, using(crate::proofs::SinkWrites::turns))]
 pub fn write_reply<K: Sink>(sink: &mut K, bytes: &[u8]) -> Result<(), Failed>
     ensures ok { OnOk result (Appends (K.taken sink.old) (K.taken sink.new) bytes.now) }

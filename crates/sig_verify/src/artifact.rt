@@ -38,7 +38,7 @@ impl From<Failed> for InputFault {
 }
 
 /// SHA-256 (FIPS 180-4 section 6.2) of all bytes that the source has left, if they are at most 2^40. They are hashed
-/// as they are read, and none is kept. Each turn takes a byte, so that it ends for every source.
+/// as they are read, and none is kept. Each turn takes at least one byte, so that it ends for every source.
 ///
 /// Errors: `TooLong` if and only if 2^40 + 1 bytes were taken; `Fault` only if the source's count of faults rose.
 pub(crate) fn sha256_of_rest<S: Source>(source: &mut S) -> Result<[u8; 32], InputFault>

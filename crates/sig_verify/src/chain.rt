@@ -61,7 +61,7 @@ pub fn verify_offline<P: VerificationPolicy, C: SignatureChecker>(
 }
 
 impl HeldRoot {
-    /// Returns what [`verify_offline`] returns of the text and the time that this root was read from, and of this
+    /// Returns what [`verify_offline`] returns for the text and the time that this root was read from, and of this
     /// digest and bundle; the root is not read again.
     pub fn verify<P: VerificationPolicy, C: SignatureChecker>(
         &self,

@@ -76,8 +76,8 @@ pub(crate) fn check_subject(bundle: &CheckedBundle, digest: &ArtifactDigest) -> 
     }
 }
 
-/// Whether the content is about the artifact of this digest: a signature over the artifact is; a statement is if a
-/// subject of it has the digest, under the same algorithm.
+/// Whether the content is about the artifact of this digest: a signature over the artifact is; a statement is if one
+/// of its subjects has the digest, under the same algorithm.
 fn is_about(content: &CheckedContent, digest: &ArtifactDigest) -> bool
     ensures { result ≡ is_about content.now digest.now }
 {

@@ -55,7 +55,7 @@ pub enum CertificateErrorKind {
 /// Why a signature is not one over the artifact that a log has.
 #[derive(Clone, Copy, Debug, PartialEq, Eq, Error)]
 pub enum SignatureErrorKind {
-    /// The certificate's key is of a kind that no signature is checked with.
+    /// The certificate's key is of a kind that is not supported.
     #[error("AlgoUnsupported")]
     AlgoUnsupported,
     /// The checker does not accept it.

@@ -21,8 +21,8 @@ use std::alloc::Global;
 impl Verifier {
     /// The links `issuance` and `issuer`: whether the certificate has the profile of one that is issued, and a
     /// certification path leads from it over the further ones to a trust anchor. Returns the SHA-256 of the
-    /// SubjectPublicKeyInfo of the first issuer in such a path. One call, since the search for a path looks at the
-    /// certificate's profile first.
+    /// SubjectPublicKeyInfo of the first issuer in such a path. It is one call, since the search for a path checks the
+    /// profile first.
     pub(crate) fn check_issuance_and_issuer<P, C: SignatureChecker>(
         &self,
         bundle: &CheckedBundle,
@@ -72,8 +72,8 @@ impl Verifier {
     }
 }
 
-/// The SHA-256 of the SubjectPublicKeyInfo of the first issuer in a certification path. The pool has no intermediates of
-/// its own, and the hashes are those of its trust anchors.
+/// The SHA-256 of the SubjectPublicKeyInfo of the first issuer in a certification path. The pool has no intermediates
+/// of its own, and the hashes are those of its trust anchors.
 fn issuer_key_hash<C: SignatureChecker>(
     alloc: Global,
     pool: &CertificatePool,
@@ -130,7 +130,7 @@ fn key_hash_of(hashes: &[[u8; 32]], further: &[Certificate], issuer: Issuer) -> 
     }
 }
 
-/// Whether the log of the certificate's SCT vouches for it, where its issuer has a SubjectPublicKeyInfo of this SHA-256.
+/// Whether the log of the certificate's SCT vouches for it, if its issuer has a SubjectPublicKeyInfo of this SHA-256.
 fn judge_sct<C: SignatureChecker>(
     alloc: Global,
     leaf: &Certificate,

@@ -1,5 +1,5 @@
 //! What the definitions mean: the chain of trust, and what the result of each check says about its links. Each law
-//! holds unless memory runs out, and its calls, where it has any, are laws.
+//! holds unless memory runs out, and the calls in it, if any, are laws.
 ghost use Rattle.sig_verify.specs.EntryCauses.{EntryErrorsHaveTheirCause};
 ghost use Rattle.sig_verify.specs.LinkLaws.{BundlesAreJudged, CheckedAreJudged, ContentsAreJudged};
 ghost use Rattle.sig_verify.specs.LinkLaws.{EntriesAreJudged, EntriesAreKept, IssuersAreJudged, TimesAreJudged};
@@ -21,8 +21,8 @@ pub fn trust_chain()
     ensures { AllLinksAreTheTrustChain }
 {}
 
-/// Where a trust anchor issued the certificate itself, the chain of trust holds whatever further certificates the
-/// bundle has, and its issuer is that trust anchor; without further certificates there is no other issuer.
+/// If a trust anchor issued the certificate itself, the chain of trust holds whatever further certificates the bundle
+/// has, and its issuer is that trust anchor; without further certificates there is no other issuer.
 pub fn longer_chains()
     ensures { LongerChainsStayValid }
 {}
@@ -78,12 +78,12 @@ pub fn checked_bundles()
     ensures { CheckedAreJudged }
 {}
 
-/// What a verifier returns of a bundle is `Ok` if and only if the links `material` to `time` hold, and else the error
-/// of the first that does not.
+/// A verifier's result for a bundle is `Ok` if and only if the links `material` to `time` hold, and else the error of
+/// the first that does not.
 pub fn verified_bundles()
     ensures { VerdictsAreJudged }
 {
-    // Bytes are at most one certificate; what a bundle's own checks ask, and say of the links.
+    // Bytes are at most one certificate; what a bundle's own checks require, and say of the links.
     certificates();
     passed_bundles();
     bundles();
@@ -100,7 +100,7 @@ pub fn roots()
 pub fn outcomes()
     ensures { OutcomesAreJudged }
 {
-    // Bytes are at most one certificate; what a bundle's own checks ask, and say of the links; what the check of a
+    // Bytes are at most one certificate; what a bundle's own checks require, and say of the links; what the check of a
     // trusted root says of them; and the members of an inclusion proof.
     certificates();
     passed_bundles();
@@ -110,8 +110,8 @@ pub fn outcomes()
     proof_faults();
 }
 
-/// Each error of `verify_offline` comes only with its cause: what it says beside its link, the first that does not
-/// hold, is so of the inputs.
+/// Each error of `verify_offline` comes only with its cause: what it says beside its link, which is the first that does
+/// not hold, is true of the inputs.
 pub fn causes_of_errors()
     ensures { OfflineErrorsHaveTheirCause }
 {

@@ -5,7 +5,7 @@ ghost use Rattle.sig_verify.specs.Link.{link_name};
 /// A link of the chain of trust, in order. Each is checked only if all before it hold.
 #[derive(Clone, Copy, PartialEq, Eq)]
 pub enum Link {
-    /// The text is a request; only the program asks it.
+    /// The text is a request; only the program checks it.
     Request,
     /// The trusted root reads as one.
     RootJson,
@@ -31,7 +31,7 @@ pub enum Link {
     Envelope,
     /// There is one log entry.
     Entry,
-    /// The media type is known, and its demand is met.
+    /// The media type is known, and the entry has what it requires.
     Profile,
     /// The certificate has the profile of one that is issued.
     Issuance,
@@ -65,7 +65,7 @@ pub enum Link {
     NoteMatch,
     /// The audit path leads from the entry to the root.
     Inclusion,
-    /// The tree has the older one as its first leaves; only the program asks it.
+    /// The tree has the older one as its first leaves; only the program checks it.
     Consistency,
 }
 

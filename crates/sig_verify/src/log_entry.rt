@@ -31,10 +31,10 @@ struct EntryInputs<'a, C> {
 /// Checks that a log vouches for an entry, by a promise and by a proof, under the key of its log id among these.
 /// Returns the entry's body and its proof with the decoded checkpoint. Errors, the first that applies:
 ///
-/// - `LogIdMissing`: the entry names no log;
+/// - `LogIdMissing`: the entry does not name a log;
 /// - `RekorPublicKeyNotFoundError` with the log id in lower-case hexadecimal: there is no key of this id;
 /// - `KeyParsingError`: the key is not a SubjectPublicKeyInfo (RFC 5280 section 4.1.2.7);
-/// - `PublicKeyUnsupportedAlgorithmError`: it is of a kind that no signature is checked with;
+/// - `PublicKeyUnsupportedAlgorithmError`: it is of a kind that is not supported;
 /// - `PromiseMissing`: the entry has no promise;
 /// - `PromiseInteger`: its time or its index is outside plus or minus 2^53 - 1;
 /// - `Promise`: the key did not sign the promise;
@@ -183,7 +183,7 @@ fn check_promise<C: SignatureChecker>(
     }
 }
 
-/// The links `proof` and `checkpoint`: the entry's proof. One call, since reading a proof reads its checkpoint.
+/// The links `proof` and `checkpoint`: the entry's proof. It is one call, since reading a proof reads its checkpoint.
 fn check_proof_and_checkpoint(
     alloc: Global,
     fields: &Option<ProofFields>,

@@ -45,13 +45,13 @@ pub enum OfflineError {
     Policy(PolicyError),
     /// The signature is not one over the artifact that a log has.
     Signature(SignatureErrorKind),
-    /// The entry names no log.
+    /// The entry does not name a log.
     LogIdMissing,
     /// There is no key of the log of this id, in lower-case hexadecimal.
     RekorPublicKeyNotFoundError(Text),
     /// The key is not a SubjectPublicKeyInfo.
     KeyParsingError,
-    /// The key is of a kind that no signature is checked with.
+    /// The key is of a kind that is not supported.
     PublicKeyUnsupportedAlgorithmError,
     /// The entry has no promise.
     PromiseMissing,
@@ -234,7 +234,7 @@ pub(crate) fn verification_error(error: VerificationError) -> OfflineError
     }
 }
 
-/// The error of a proof that was not accepted. One whose checkpoint was read has only these.
+/// The error of a proof that was not accepted. A proof whose checkpoint was read has only these errors.
 pub(crate) fn proof_error(error: SigstoreError) -> OfflineError
     requires { OrMemory SigstoreError.OutOfMemory error (IsProofRefusal error) }
     ensures { result ≡ of_proof error }

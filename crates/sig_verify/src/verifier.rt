@@ -85,7 +85,7 @@ fn key_hashes_of(alloc: Global, anchors: &[Certificate]) -> Result<Hashes, OutOf
     Ok(hashes)
 }
 
-/// Returns the keyring of the keys of a map; of keys with one id it has the last. Fails only if out of memory.
+/// Returns the keyring of the keys of a map; of several keys with one id it has the last. Fails only if out of memory.
 pub fn keyring_of(alloc: Global, keys: &KeyMap) -> Result<Keyring, OutOfMemory>
     ensures { IfOk result (HasKeys keys.now) }
 {

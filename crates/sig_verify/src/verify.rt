@@ -19,19 +19,19 @@ use sig_x509::VerificationPolicy;
 use std::alloc::Global;
 
 impl Verifier {
-    /// Checks that a bundle is one of an artifact of this digest, whose certificate is trusted and meets the policy,
-    /// and that a log's entry is about it. If not `offline`, an entry without an inclusion proof is about nothing.
+    /// Checks that a bundle is about an artifact of this digest, whose certificate is trusted and meets the policy,
+    /// and that a log's entry is about it. If not `offline`, an entry without an inclusion proof does not count.
     /// Neither the log's promise nor its proof is checked; `verify_log_entry` does both. Errors, the first that
     /// applies:
     ///
-    /// - `Bundle`, as of [`CheckedBundle::try_from_bundle`];
+    /// - `Bundle`, as for [`CheckedBundle::try_from_bundle`];
     /// - `Certificate` of `Malformed`: the certificate does not have the profile of one that a trust anchor may issue;
     /// - `Certificate` of `VerificationFailed`: no certification path (RFC 5280 section 6.1) leads from it, at the
     ///   first second of its validity, over the further certificates of the bundle to a trust anchor;
     /// - `Certificate` of `Sct`: no Certificate Transparency log vouches for it under the key of the first issuer in
     ///   such a path, the trust anchors in order and then the further certificates;
     /// - `Policy` of the policy's refusal;
-    /// - `Signature` of `AlgoUnsupported`: its key is of a kind that no signature is checked with;
+    /// - `Signature` of `AlgoUnsupported`: its key is of a kind that is not supported;
     /// - `Signature` of `DigestAlgorithmUnsupported`: a signature over an artifact, and the digest is not SHA-256;
     /// - `Signature` of `VerificationFailed`: the checker does not accept the signature;
     /// - `Signature` of `SubjectDigestMismatch`: no subject of the statement has the digest;

@@ -39,7 +39,7 @@ impl Verifier {
     /// they are read, so that memory does not grow with them. Errors before all others:
     ///
     /// - `Input` of `Fault`: a read failed; it comes only if the source's count of faults rose;
-    /// - `Input` of `TooLong`: 2^40 + 1 bytes were taken. No more are ever read.
+    /// - `Input` of `TooLong`: 2^40 + 1 bytes were taken. It never reads more.
     pub fn verify<S: Source, P: VerificationPolicy, C: SignatureChecker>(
         &self,
         alloc: Global,
