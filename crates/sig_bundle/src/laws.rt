@@ -24,7 +24,7 @@ pub fn promises()
         → canonical_of (promise_tree_of entry) ≡ Err CanonicalError.IntegerTooLarge }
 {}
 
-/// The members of an inclusion proof are taken for a proof if and only if they are it. It has no code.
+/// The members of an inclusion proof are read as a proof if and only if they are that proof. It has no code.
 pub fn proofs()
     ensures { (fields : Members) (proof : InclusionProof) →
         (proof_or_fault fields ≡ Ok proof) ↔ IsProof fields proof }

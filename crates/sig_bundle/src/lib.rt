@@ -20,7 +20,7 @@
 //! The layer above uses four facts. A text is read as the bundle that its members are, if and only if they fit the
 //! table of the format. The text of a bundle is read back as that bundle. The members of an inclusion proof are taken
 //! for a proof if and only if they are one, and else the first wrong one is named. The text of a log's promise is the
-//! template of Rekor's signed entry timestamp. What equality of bundles and of their parts is, say `laws`.
+//! template of Rekor's signed entry timestamp. `laws` says what equality of bundles and of their parts is.
 #![tactic(auto)]
 
 mod bundle;

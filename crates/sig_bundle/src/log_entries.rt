@@ -21,8 +21,7 @@ enum Held {
     Whole(BoxedEntry),
 }
 
-/// An entry that takes memory of its own only where it has a member that is more than an empty log id. Contracts see
-/// the entry.
+/// An entry that takes memory of its own only if it has a member other than an empty log id. Contracts see the entry.
 #[derive(Drop)]
 pub(crate) struct SparseEntry {
     alloc: Global,
@@ -39,7 +38,7 @@ impl Model for SparseEntry {
 }
 
 impl SparseEntry {
-    /// The same entry. Fails only if out of memory.
+    /// Returns the same entry. Fails only if out of memory.
     pub(crate) fn new(
         alloc: Global,
         entry: TransparencyLogEntry,
@@ -208,7 +207,7 @@ impl Model for LogEntries {
 }
 
 impl LogEntries {
-    /// The list of these entries. It takes no memory.
+    /// Returns the list of these entries. It takes no memory.
     pub(crate) fn of(alloc: Global, items: OwnedList<SparseEntry>) -> LogEntries
         ensures { result ≡ items }
     {
@@ -219,7 +218,7 @@ impl LogEntries {
         }
     }
 
-    /// A list without entries. It takes no memory.
+    /// Returns a list without entries. It takes no memory.
     pub fn new(alloc: Global) -> LogEntries
         ensures { result ≡ [] }
     {
@@ -235,7 +234,7 @@ impl LogEntries {
         self.items.push(held)
     }
 
-    /// How many entries there are.
+    /// Returns the number of entries.
     pub fn len(&self) -> usize
         ensures { result ≡ length self.now }
     {

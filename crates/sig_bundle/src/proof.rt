@@ -22,7 +22,8 @@ impl ProofFields {
     /// - `CheckpointMissing`: there is no checkpoint;
     /// - `Checkpoint`: its text is not a checkpoint, with the fault of [`SignedCheckpoint::decode`].
     pub fn to_proof(&self, alloc: Global) -> std::result::Result<InclusionProof, ProofFieldsError>
-        // A proof is returned if and only if the members are it, and an error if and only if its cause is the first.
+        // A proof is returned if and only if the members are that proof, and an error if and only if its cause is the
+        // first.
         ensures exact { AnswersOnly ProofFieldsError.OutOfMemory (IsProofOrFault self.now) result }
         // The same in one equation.
         ensures answer { Answers ProofFieldsError.OutOfMemory (λ proof. proof) result (proof_or_fault self.now) }

@@ -136,7 +136,7 @@ impl ElementWriter for EntryWriter {
     }
 }
 
-/// Writes entries of logs that are held as `SparseEntry`.
+/// Writes entries of logs held as `SparseEntry`.
 pub(crate) enum SparseEntryWriter {}
 
 impl ElementWriter for SparseEntryWriter {

@@ -56,7 +56,7 @@ impl Certificate {
         // A certificate is returned, unless memory ran out.
         ensures only { (c : Cert) → IsCertificate der.now c
             → Answers X509ReadError.OutOfMemory (λ r. r) result (Ok c) }
-        // `Der` comes only where the bytes are not a certificate, and there nothing else does, unless memory ran out.
+        // `Der` is returned if the bytes are not a certificate, and only then, unless memory ran out.
         ensures refused { ComesWhere X509ReadError.OutOfMemory result (Err X509ReadError.Der)
             ((c : Cert) → ¬ IsCertificate der.now c) }
     {
@@ -175,7 +175,7 @@ impl Certificate {
         self.places.listed
     }
 
-    /// What contracts see of a certificate is one: a law, for the proofs of the crates above. It does nothing.
+    /// The value that contracts see is a certificate: a law, for the proofs of the crates above. It does nothing.
     pub fn is_certificate(&self)
         ensures { IsCertificate self.now.whole self.now }
     {

@@ -49,7 +49,7 @@ pub(crate) fn read_extension(reader: Reader<'_>) -> Option<(ExtensionPlaces, Rea
     Some((places, rest))
 }
 
-/// Reads a BOOLEAN DEFAULT FALSE. `None` if a BOOLEAN is next that has another value than 00 or FF.
+/// Reads a BOOLEAN DEFAULT FALSE. `None` if a BOOLEAN with another value than 00 or FF is next.
 #[tactic(auto, unfolding(crate::specs::Cutting::flag_at))]
 pub(crate) fn read_flag(reader: Reader<'_>) -> Option<(bool, Reader<'_>)>
     ensures cut { flag_at (left reader.entry) ≡ option_map value_read result }

@@ -66,7 +66,7 @@ pub fn pem_lines()
     ensures { (der : List ℕ) → IsWrappedBase64 der (lines_of der) }
 {}
 
-/// A fault of a profile comes if and only if the rules before its own hold and its own does not.
+/// A fault of a profile comes if and only if the rules before its own hold and its own does not hold.
 pub fn profile_faults()
     ensures authority { (c : Cert) → (ca_refusal c ≡ None) ↔ IsAuthority c }
     ensures no_authority { (c : Cert) (e : CertificateValidationError) → (ca_refusal c ≡ Some e)
@@ -75,7 +75,7 @@ pub fn profile_faults()
     ensures no_leaf { (c : Cert) (e : CertificateValidationError) → (leaf_refusal c ≡ Some e) ↔ IsLeafFault c e }
 {}
 
-/// A fault of a check of trust comes if and only if the checks before its own pass and its own does not.
+/// A fault of a check of trust comes if and only if the checks before its own pass and its own does not pass.
 pub fn trust_faults()
     ensures usages { (c : Cert) (e : SigstoreError) → (usages_refusal c ≡ Some e) ↔ IsUsagesFault c e }
     ensures names { (c : Cert) (e : SigstoreError) → (names_refusal c ≡ Some e) ↔ IsNamesFault c e }

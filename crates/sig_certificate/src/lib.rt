@@ -14,9 +14,9 @@
 //! several. A value of an extension says what its definition reads in it. A profile returns `Ok`, or the first of its
 //! faults that has its cause.
 //!
-//! What other crates use besides: sig_timestamp takes `front`, `is_listed`, `extensions`, `is_certificate` and
+//! Other crates also use: sig_timestamp takes `front`, `is_listed`, `extensions`, `is_certificate` and
 //! `read_purpose`, sig_policy the names of a value, sig_x509 `extensions`, `are_single`, `basic_constraints` and
-//! `may_sign_code`, and sig_questions the last of these.
+//! `may_sign_code`, and sig_questions `may_sign_code`.
 #![tactic(auto)]
 
 mod certificate;

@@ -44,9 +44,9 @@ pub(crate) fn read_extension_list(
     Ok(Listed { places, single })
 }
 
-/// Whether no two have one object identifier. The list is sorted by them, so that equal ones are neighbours, and then
-/// back into the order of the DER, both in place: this takes no memory, and the time of a sort, since whoever makes a
-/// certificate chooses how many extensions it has.
+/// Whether no two extensions have one object identifier. The list is sorted by them, so that equal ones are neighbours,
+/// and then back into the order of the DER, both in place: this takes no memory, and the time of a sort, since whoever
+/// makes a certificate chooses how many extensions it has.
 fn are_single(bytes: &[u8], extensions: &mut [ExtensionPlaces]) -> bool
     requires { Ascend extensions.old }
     ensures single { result ≡ are_single (map (extension_of bytes.now) extensions.old) }

@@ -41,7 +41,7 @@ pub fn basic_constraints(
 /// - `NotCA`: neither cA nor keyCertSign is set; `Invalid`: only one of them is.
 pub fn is_ca(certificate: &Certificate) -> Result<(), CertificateValidationError>
     ensures authority { (result ≡ Ok tt) ↔ IsAuthority certificate.now }
-    // Each error: the rules before its own hold, and its own does not.
+    // Each error: the rules before its own hold, and its own does not hold.
     ensures faults { (e : CertificateValidationError) → IsErrOf result e ↔ IsAuthorityFault certificate.now e }
     // The same in one equation.
     ensures exact { error_of result ≡ ca_refusal certificate.now }

@@ -1,4 +1,4 @@
-//! Walks over the lists in extension values, which keep no list.
+//! Walks over the lists in extension values, which do not keep a list.
 
 ghost use Rattle.std.specs.Prelude.{◌≡◌, ◌||◌, option_map, is_some};
 ghost use Rattle.sig_der.specs.FrontReaders.{many_at};

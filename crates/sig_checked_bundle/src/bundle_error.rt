@@ -21,7 +21,7 @@ pub enum BundleErrorKind {
     /// The material has no content, or a hint at a key, which is not read.
     #[error("VerificationMaterialContentUnsupported")]
     VerificationMaterialContentUnsupported,
-    /// A chain has this number of certificates, above 17.
+    /// The number of certificates of a chain, which is above 17.
     #[error("TooManyCertificates")]
     TooManyCertificates(usize),
     /// The bytes at this index, counted from 0, are not a certificate.
@@ -39,16 +39,16 @@ pub enum BundleErrorKind {
     /// There is no content.
     #[error("SignatureMissing")]
     SignatureMissing,
-    /// An envelope has this number of signatures, and not one.
+    /// The number of signatures of an envelope, which is not one.
     #[error("DsseInvalidSignatureCount")]
     DsseInvalidSignatureCount(usize),
     /// The payload of an envelope is not a statement.
     #[error("DssePayloadDecode")]
     DssePayloadDecode,
-    /// A statement has this number of subjects, above 1024.
+    /// The number of subjects of a statement, which is above 1024.
     #[error("DsseTooManySubjects")]
     DsseTooManySubjects(usize),
-    /// A subject has this number of digests, above 32.
+    /// The number of digests of a subject, which is above 32.
     #[error("DsseTooManySubjectDigests")]
     DsseTooManySubjectDigests(usize),
     /// A digest of a subject is not hex of as many bytes as its name says.
@@ -57,7 +57,7 @@ pub enum BundleErrorKind {
     /// No subject has a digest that an artifact could be compared with.
     #[error("DsseNoRecognizedSubjectDigest")]
     DsseNoRecognizedSubjectDigest,
-    /// There is this number of log entries, and not one.
+    /// The number of log entries, which is not one.
     #[error("TlogEntry")]
     TlogEntry(usize),
     /// The log entry does not have what the media type requires.

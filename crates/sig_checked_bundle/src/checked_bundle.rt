@@ -63,8 +63,8 @@ impl CheckedBundle {
     /// 11. `DsseTooManySubjects` above 1024, `DsseTooManySubjectDigests` above 32, `DsseSubjectDigestMalformed`, and
     ///     `DsseNoRecognizedSubjectDigest`, as [`sig_dsse::recognized_digests`].
     /// 12. `TlogEntry`: there is not one log entry.
-    /// 13. `BundleProfile`: `Unknown` for a media type that names no version; under 0.1 `InclusionPromiseMissing`;
-    ///     under 0.2 and 0.3 `InclusionProofMissing`, then `CheckpointMissing`.
+    /// 13. `BundleProfile`: `Unknown` for a media type that does not name a version; under 0.1
+    ///     `InclusionPromiseMissing`; under 0.2 and 0.3 `InclusionProofMissing`, then `CheckpointMissing`.
     pub fn try_from_bundle(alloc: Global, input: &Bundle) -> Result<CheckedBundle, BundleErrorKind>
         ensures passed { (checked : Checked) → ComesWhere BundleErrorKind.OutOfMemory result (Ok checked)
             (IsPassed input.now checked) }
@@ -83,7 +83,7 @@ impl CheckedBundle {
         &self.certificate
     }
 
-    /// The certificates after the signing one, in order: at most 16, of which none is a root.
+    /// The certificates after the signing one, in order: at most 16, none of which is a root.
     pub fn further(&self) -> &[Certificate]
         ensures { result.now ≡ self.now.further }
     {

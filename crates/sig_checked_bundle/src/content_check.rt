@@ -1,4 +1,4 @@
-//! A bundle's content, as far as the bundle alone can tell. No signature is checked here.
+//! A bundle's content, as far as it can be checked by itself. No signature is checked here.
 
 ghost use Rattle.std.specs.Prelude.{◌≡◌, IfOk};
 ghost use Rattle.sig_base.specs.Answers.{Answers};
@@ -95,7 +95,7 @@ fn checked_envelope(
     })
 }
 
-/// The one signature. Fails with `DsseInvalidSignatureCount` and their number if and only if there is not one.
+/// The one signature. Fails with `DsseInvalidSignatureCount` and their number if and only if there is not exactly one.
 fn only_signature(signatures: &DsseSignatures) -> Result<&DsseSignature, BundleErrorKind>
     ensures { borrowed_now result ≡ signature_among signatures.now }
 {

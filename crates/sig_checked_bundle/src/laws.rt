@@ -24,7 +24,7 @@ pub fn causes_of_refusals()
     ensures { RefusalsHaveTheirCause }
 {}
 
-/// The body of the log entry of a checked bundle is accepted if and only if it has these members. Of a signature over
+/// The body of the log entry of a checked bundle is accepted if and only if it has these members. For a signature over
 /// an artifact: the artifact's SHA-256 in hexadecimal, the base64 of the bundle's signature, and the base64 of the PEM
 /// of the bundle's certificate, each under its name, and no other member. For an envelope: the SHA-256 of the
 /// envelope's text and of the payload, each under its name, and as the first signature the envelope's, beside the PEM

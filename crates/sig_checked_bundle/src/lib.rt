@@ -1,9 +1,9 @@
-//! Sigstore bundles that are checked as far as a bundle alone can be checked. No signature is checked here, and no
+//! Sigstore bundles that are checked as far as a bundle can be checked by itself. No signature is checked here, and no
 //! digest compared.
 //!
 //! The layer above uses three facts. A bundle passes its own checks if and only if no error has its cause, and else
-//! fails with the first. A checked bundle hands out its log entry if and only if the entry is about what the bundle
-//! holds. What a bundle holds that passes, say `laws`.
+//! fails with the first. A checked bundle returns its log entry if and only if the entry is about what the bundle
+//! holds. `laws` says what a bundle that passes holds.
 #![tactic(auto)]
 
 mod bundle_error;

@@ -14,7 +14,8 @@ use sig_bundle::{LogEntries, ProofFields, TransparencyLogEntry};
 use std::alloc::Global;
 use std::str::FromStr;
 
-/// The link `entry`: the one log entry. Fails with `TlogEntry` and their number if and only if there is not one.
+/// The link `entry`: the one log entry. Fails with `TlogEntry` and their number if and only if there is not exactly
+/// one.
 pub(crate) fn check_entry(entries: &LogEntries) -> Result<&TransparencyLogEntry, BundleErrorKind>
     ensures { borrowed_now result ≡ entry_among entries.now }
 {
@@ -27,7 +28,7 @@ pub(crate) fn check_entry(entries: &LogEntries) -> Result<&TransparencyLogEntry,
 /// The link `profile`: whether the entry has what the media type requires, under version 0.1 the log's promise to
 /// include it, under 0.2 and 0.3 an inclusion proof with a checkpoint.
 ///
-/// Fails with `BundleProfile` of `Unknown` if and only if the media type names no version; then with that of
+/// Fails with `BundleProfile` of `Unknown` if and only if the media type does not name a version; then with that of
 /// `Bundle01Profile` or `Bundle02Profile` of the first that is missing.
 pub(crate) fn check_profile(
     alloc: Global,
@@ -45,7 +46,7 @@ pub(crate) fn check_profile(
     }
 }
 
-/// The first that a log entry lacks of what the version requires.
+/// Returns the first required part that a log entry lacks.
 fn lacks(version: Version, entry: &TransparencyLogEntry) -> Option<BundleProfileErrorKind>
     ensures { result ≡ lacks version entry.now }
 {
@@ -55,7 +56,7 @@ fn lacks(version: Version, entry: &TransparencyLogEntry) -> Option<BundleProfile
     }
 }
 
-/// What a log entry with this promise lacks of the log's promise to include it.
+/// Returns what a log entry with this promise lacks, if the log's promise to include it is required.
 fn lacks_promise(promise: &Option<Bytes>) -> Option<BundleProfileErrorKind>
     ensures { result ≡ lacks_promise promise.now }
 {
@@ -65,7 +66,7 @@ fn lacks_promise(promise: &Option<Bytes>) -> Option<BundleProfileErrorKind>
     }
 }
 
-/// What a log entry with this inclusion proof lacks of a proof with a checkpoint.
+/// Returns what a log entry with this inclusion proof lacks, if a proof with a checkpoint is required.
 fn lacks_proof(proof: &Option<ProofFields>) -> Option<BundleProfileErrorKind>
     ensures { result ≡ lacks_proof proof.now }
 {
@@ -78,7 +79,7 @@ fn lacks_proof(proof: &Option<ProofFields>) -> Option<BundleProfileErrorKind>
     }
 }
 
-/// The error for a media type that names no version: `Unknown` with its text, unless memory runs out.
+/// The error for a media type that does not name a version: `Unknown` with its text, unless memory runs out.
 fn unknown(alloc: Global, media_type: &Text) -> BundleErrorKind
     ensures { (result ≡ BundleErrorKind.OutOfMemory)
         ⊎ (result ≡ BundleErrorKind.BundleProfile (BundleProfileErrorKind.Unknown media_type.now)) }

@@ -17,7 +17,7 @@ use sig_certificate::{Certificate, X509ReadError, is_leaf, is_root_ca};
 use std::alloc::Global;
 use std::slice;
 
-/// How many certificates a chain may have: the signing one, and 16 further ones.
+/// The greatest number of certificates of a chain: the signing one, and 16 further ones.
 const MOST_CERTIFICATES: usize = 17;
 
 /// The signing certificate, and the further ones in order.

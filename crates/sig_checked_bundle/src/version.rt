@@ -10,9 +10,9 @@ use std::str::FromStr;
 #[allow(non_camel_case_types)]
 #[derive(Clone, Copy, Debug, PartialEq, Eq)]
 pub enum Version {
-    /// 0.1: the log's promise is demanded.
+    /// 0.1: the log's promise is required.
     Bundle0_1,
-    /// 0.2: an inclusion proof with a checkpoint is demanded.
+    /// 0.2: an inclusion proof with a checkpoint is required.
     Bundle0_2,
     /// 0.3: as 0.2, under a media type of another form.
     Bundle0_3,

@@ -15,8 +15,8 @@ use sig_json_text::quoted;
 use std::alloc::Global;
 
 /// The JSON of an envelope: `payload`, `payloadType` and `signatures` in this order, in a signature `sig` and `keyid`.
-/// Empty members are omitted, bytes are in padded standard base64 (RFC 4648 section 4), texts escaped as in canonical
-/// JSON (RFC 8785 section 3.2.2.2), and there is no white space. Fails only if out of memory.
+/// Empty members are omitted, bytes are written in padded standard base64 (RFC 4648 section 4), texts escaped as in
+/// canonical JSON (RFC 8785 section 3.2.2.2), and there is no white space. Fails only if out of memory.
 pub fn envelope_json(alloc: Global, envelope: &DsseEnvelope) -> Result<Text, OutOfMemory>
     ensures { IfOk result (λ text. text ≡ envelope_text envelope.now) }
 {

@@ -45,7 +45,7 @@ pub fn taken_digests()
 {}
 
 /// Each fault comes if and only if it has its cause in the words of the subjects: the rules before it hold, and this
-/// one does not. So do the faults of a statement's digests, of a payload, and of a statement as `cosign` asks for it.
+/// one does not. So do the faults of a statement's digests, of a payload, and of a statement as `cosign` requires it.
 /// The digits that a digest must have are those of its hash. It has no code.
 pub fn causes_of_faults()
     ensures digits { DigitsAreOfTheHash }

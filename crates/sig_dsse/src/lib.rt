@@ -8,9 +8,9 @@
 //! ```
 //!
 //! The layer above uses three facts. The pre-authentication encoding is that of the DSSE protocol, and no two pairs of
-//! type and payload have the same. A payload is read as a statement if and only if its members are one's. The digests
-//! that are taken of a statement are those that its subjects have under `sha256` and `sha512`, in order, or it is
-//! reported which rule is broken first.
+//! type and payload have the same. A payload is read as a statement if and only if its members are those of a
+//! statement. The digests that are taken of a statement are those that its subjects have under `sha256` and `sha512`,
+//! in order, or it is reported which rule is broken first.
 #![tactic(auto)]
 
 mod artifact_digest;

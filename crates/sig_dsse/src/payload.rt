@@ -49,8 +49,8 @@ impl From<SubjectFault> for PayloadFault {
     }
 }
 
-/// The digests of the statement that a payload is, as [`recognized_digests`](crate::recognized_digests) takes them. Of
-/// the statement nothing but its subjects' digests is copied.
+/// The digests of the statement that a payload is, as [`recognized_digests`](crate::recognized_digests) takes them.
+/// Only the digests of the statement's subjects are copied.
 ///
 /// Fails with `NoStatement` if and only if [`InTotoStatementV1::from_json`](crate::InTotoStatementV1::from_json) fails
 /// on the payload, then with `Subjects` and the fault that `recognized_digests` has.

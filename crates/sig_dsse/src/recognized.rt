@@ -36,10 +36,10 @@ pub enum DigestName {
 /// Why the digests of a statement cannot be taken.
 #[derive(Clone, Copy, Debug, PartialEq, Eq, Error)]
 pub enum SubjectFault {
-    /// There are this number of subjects, which is more than 1024.
+    /// The number of subjects, which is more than 1024.
     #[error("TooManySubjects")]
     TooManySubjects(usize),
-    /// A subject has this number of digests, which is more than 32.
+    /// The number of digests of a subject, which is more than 32.
     #[error("TooManyDigests")]
     TooManyDigests(usize),
     /// A digest of this name is not hexadecimal digits of as many bytes as the algorithm gives.

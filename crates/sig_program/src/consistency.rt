@@ -22,7 +22,7 @@ use std::alloc::Global;
 /// with status 2 for the link `request` and 1 for every other. Fails only if out of memory.
 ///
 /// The second line is `prefix M` for every list of the log between equal sizes and from the empty tree; and of two
-/// older trees of one new tree one is a prefix of the other, or a second line shows a collision.
+/// older trees of one new tree one is a front of the other, or a second line shows a collision.
 pub fn consistency_reply(alloc: Global, request: &[u8]) -> Result<Reply, OutOfMemory>
     ensures reply { IfOk result (IsReply Consistency request.now) }
     ensures trivial { TrivialFronts }
