@@ -9,7 +9,7 @@ use sig_base::{Bytes, OutOfMemory, OwnedList, Text};
 use std::alloc::Global;
 use std::marker::Model;
 
-/// A signature that takes memory of its own only where a part of it is not empty. Contracts see the signature.
+/// A signature that takes memory of its own only if a part of it is not empty. Contracts see the signature.
 #[derive(Drop)]
 pub struct SparseSignature {
     alloc: Global,
@@ -38,7 +38,7 @@ impl DsseSignature {
 }
 
 impl SparseSignature {
-    /// The same signature. Fails only if out of memory.
+    /// Returns the same signature. Fails only if out of memory.
     pub fn new(alloc: Global, signature: DsseSignature) -> Result<SparseSignature, OutOfMemory>
         ensures { IfOk result (λ sparse. sparse ≡ signature) }
     {
@@ -144,7 +144,7 @@ impl Model for DsseSignatures {
 }
 
 impl DsseSignatures {
-    /// The list of these signatures. It takes no memory.
+    /// Returns the list of these signatures. It takes no memory.
     pub fn of(alloc: Global, items: OwnedList<SparseSignature>) -> DsseSignatures
         ensures { result ≡ items }
     {
@@ -155,7 +155,7 @@ impl DsseSignatures {
         }
     }
 
-    /// A list without signatures. It takes no memory.
+    /// Returns a list without signatures. It takes no memory.
     pub fn new(alloc: Global) -> DsseSignatures
         ensures { result ≡ [] }
     {
@@ -171,7 +171,7 @@ impl DsseSignatures {
         self.items.push(held)
     }
 
-    /// How many signatures there are.
+    /// Returns the number of signatures.
     pub fn len(&self) -> usize
         ensures { result ≡ length self.now }
     {
@@ -198,7 +198,7 @@ impl DsseSignatures {
         }
     }
 
-    /// A signature without parts.
+    /// Returns a signature without parts.
     pub(crate) fn empty(&self) -> &DsseSignature
         ensures { result.now ≡ no_parts }
     {

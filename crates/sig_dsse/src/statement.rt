@@ -57,7 +57,7 @@ impl InTotoStatementV1 {
     ghost use Rattle.sig_dsse.specs.Faults.{FirstHasSha256, FirstLacksSha256, IsCosignCauseOf, IsCosignStatement};
     ghost use Rattle.sig_dsse.specs.Seen.{seen};
 
-    /// Whether it is a statement as `cosign` signs it. Fails with `UnexpectedError`, the first of these:
+    /// Checks that it is a statement as `cosign` signs it. Fails with `UnexpectedError`, the first of these:
     /// `StatementType` where `_type` is not `https://in-toto.io/Statement/v1`, `PredicateType` where the predicate's
     /// type is not `https://sigstore.dev/cosign/sign/v1`, `NoSubjects` where there is no subject,
     /// `FirstSubjectWithoutSha256` where the first subject has no digest named `sha256`. It takes no memory.

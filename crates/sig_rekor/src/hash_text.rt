@@ -18,7 +18,7 @@ use std::alloc::Global;
 ///
 /// Errors:
 /// - `HexDecodeError`: the text is not an even number of hexadecimal digits;
-/// - `UnexpectedError` of `other_length`: it is of another number of bytes than 32.
+/// - `UnexpectedError` of `other_length`: it does not have 32 bytes.
 ///
 /// `laws::hash_texts` says when each comes.
 #[tactic(auto, unfolding(crate::specs::HashText::hash_in))]
@@ -36,7 +36,7 @@ pub fn decode_hash(text: &[u8], other_length: UnexpectedKind) -> Result<[u8; 32]
 
 /// Returns the hashes that the texts are, in their order.
 ///
-/// Errors, of the first text that is not a hash, as of [`decode_hash`]: `HexDecodeError`, or `UnexpectedError` of
+/// Errors, for the first text that is not a hash, as for [`decode_hash`]: `HexDecodeError`, or `UnexpectedError` of
 /// `HashLength` with the index of the text; `laws::hash_texts` says when each comes.
 #[tactic(auto, using(sig_base::proofs::IndexedElements::each_left))]
 pub fn decode_hashes(alloc: Global, texts: &Entries) -> Result<Hashes>

@@ -28,7 +28,7 @@ pub struct InclusionProof {
 impl InclusionProof {
     ghost use Rattle.sig_rekor.specs.Verify.{proof_answer, IsIncludedAt, IsVouched, inclusion_at};
 
-    /// The proof of these parts.
+    /// Returns the proof of these parts.
     pub fn new(
         log_index: i64,
         root_hash: [u8; 32],
@@ -59,7 +59,7 @@ impl InclusionProof {
     /// Errors, the first that applies:
     /// - `UnexpectedError` of `CheckpointMissing`;
     /// - `CheckpointSignatureVerificationError`;
-    /// - `ConsistencyProofError`, as of [`SignedCheckpoint::is_valid_for_proof`];
+    /// - `ConsistencyProofError`, as for [`SignedCheckpoint::is_valid_for_proof`];
     /// - `InclusionProofError` of `IndexGtTreeSize`: the index is negative or not below the size;
     /// - `InclusionProofError` of `WrongProofSize`: another number of hashes;
     /// - `InclusionProofError` of `MismatchedRoot`: another root.
@@ -101,8 +101,8 @@ impl InclusionProof {
         self.check_path(entry)
     }
 
-    /// Checks only the audit path (RFC 6962 section 2.1.1): it leads from the entry's leaf to the root. No checkpoint
-    /// is looked at, so that whose root it is stays open. It takes no memory.
+    /// Checks only the audit path (RFC 6962 section 2.1.1): it leads from the entry's leaf to the root. The checkpoint
+    /// is not checked, so the root need not be the log's. It takes no memory.
     ///
     /// Errors, each an `InclusionProofError`, the first that applies:
     /// - `IndexGtTreeSize`: the index is negative or not below the size;

@@ -82,7 +82,7 @@ pub fn equal_api_proofs(one: &RekorInclusionProof, other: &RekorInclusionProof) 
     one == other
 }
 
-/// Whether two errors are equal: if and only if both are out of memory, or both the same fault.
+/// Whether two errors are equal: if and only if both are out of memory, or both are the same fault.
 pub fn equal_refusals(one: &ParseCheckpointError, other: &ParseCheckpointError) -> bool
     ensures { IsTrue result ↔ (one.now ≡ other.now) }
 {
@@ -110,7 +110,7 @@ pub fn checkpoint_faults()
         (checkpoint_of text ≡ Err fault) ↔ IsCheckpointFault text fault }
 {}
 
-/// A checkpoint that is not of a proof's tree is refused because its note's tree is larger, or smaller, or as large
+/// A checkpoint that is not of a proof's tree is rejected because its note's tree is larger, or smaller, or as large
 /// with another root: each error comes if and only if it has its cause, and keeps the note's values as `old` and
 /// `expected`, the proof's as `new` and `got`. It has no code.
 pub fn tree_refusals()
@@ -149,7 +149,7 @@ pub fn hash_texts()
         (hashes_from 0 texts ≡ Err error) ↔ IsHashesFault texts error }
 {}
 
-/// An inclusion proof of Rekor's API is taken for a proof if and only if it is that proof. Each fault comes if and only
+/// An inclusion proof of Rekor's API is read as a proof if and only if it is that proof. Each fault comes if and only
 /// if it has its cause: it is that of the first text that is not a hash; or all of them are hashes, and it is the
 /// root's; or the root is one too, and it is that of the checkpoint's text. It has no code.
 pub fn api_proofs()

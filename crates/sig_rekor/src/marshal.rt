@@ -31,7 +31,7 @@ impl Checkpoint {
         Ok(Text::from(self.write(alloc)?))
     }
 
-    /// The note's text, to write on after it.
+    /// Returns the note's text, to which more is appended.
     #[tactic(auto, using(crate::proofs::Steps::appended), unfolding(crate::specs::NoteText::note_text))]
     pub(crate) fn write(&self, alloc: Global) -> Result<String, OutOfMemory>
         ensures text { IfOk result (λ text. string_bytes text ≡ note_text self.now) }

@@ -31,7 +31,7 @@ pub struct Note<'a> {
     pub(crate) origin: &'a str,
     pub(crate) size: u64,
     pub(crate) hash: [u8; 32],
-    /// The lines after the hash, those that are empty too.
+    /// The lines after the hash, also empty ones.
     pub(crate) others: &'a str,
 }
 
@@ -96,7 +96,7 @@ impl<'a> Note<'a> {
     }
 }
 
-/// The first three lines of a note, and what follows them.
+/// Returns the first three lines of a note, and what follows them.
 #[derive(Drop)]
 struct Lines<'a> {
     origin: &'a str,
@@ -157,7 +157,7 @@ fn read_hash(alloc: Global, line: &str) -> Result<[u8; 32], ParseCheckpointError
     }
 }
 
-/// The first three lines of a note's text, to write on after them.
+/// Returns the first three lines of a note's text, to which the rest is appended.
 #[tactic(auto, using(crate::proofs::Steps::appended))]
 pub(crate) fn write_head(
     alloc: Global,

@@ -37,7 +37,7 @@ impl InclusionProof {
     ///
     /// Errors, the first that applies:
     /// - `HexDecodeError`, or `UnexpectedError` of `HashLength` with its index: for the first hash that is not 64
-    ///   hexadecimal digits, as of [`decode_hash`];
+    ///   hexadecimal digits, as for [`decode_hash`];
     /// - `HexDecodeError`, or `UnexpectedError` of `RootLength`: the same for the root hash;
     /// - `ParseCheckpointError`: the fault of [`SignedCheckpoint::decode`].
     ///

@@ -19,12 +19,12 @@ use std::alloc::Global;
 #[tactic(auto, unfolding(crate::specs::Verify::has_accepted_signature))]
 impl SignedNote<'_> {
     /// Checks that one of the signatures is the log's over the marshalled note. Fails with
-    /// `CheckpointSignatureVerificationError` if and only if the checker accepts none of them.
+    /// `CheckpointSignatureVerificationError` if and only if the checker does not accept any of them.
     ///
     /// The note is marshalled once, and the checker is asked once for each different signature, in byte order, until
     /// it accepts one. A checker that hashes the message at each call hashes the whole note once for each different
     /// signature of an untrusted text: its caller should limit the number of signatures or the size of a checkpoint,
-    /// or hash a note once and keep the digest. The program's table hashes nothing, and compares the message last. The
+    /// or hash a note once and keep the digest. The program's table does not hash, and compares the message last. The
     /// call takes the memory of the note, and 16 bytes a signature.
     pub fn verify_signature<C: SignatureChecker>(
         &self,

@@ -47,12 +47,12 @@ impl CertificateEmbeddedSCT {
         leaf: &Certificate,
         chain: &[Certificate],
     ) -> Result<CertificateEmbeddedSCT, SCTError>
-        // The one SCT is returned, ready to be checked under the issuer's key.
+        // The one SCT is returned, prepared for the check under the issuer's key.
         ensures embedded { IsEmbeddedUnder leaf.now (issuer_in_chain chain.now) result }
-        // The chain begins with no issuer.
+        // The chain does not begin with an issuer.
         ensures issuer { IsErrOf result (SCTError.Parsing CertificateErrorKind.IssuerMissing)
             ↔ (issuer_in_chain chain.now ≡ None) }
-        // It begins with one, and not one extension lists SCTs, or it does not list exactly one.
+        // It begins with one, and there is not exactly one extension that lists SCTs, or it does not list exactly one.
         ensures missing { ComesWhere SCTError.OutOfMemory result (Err
             (SCTError.Parsing CertificateErrorKind.LeafSCTMissing)) (IsSome
             (issuer_in_chain chain.now) × LacksSct leaf.now) }
@@ -76,9 +76,9 @@ impl CertificateEmbeddedSCT {
         leaf: &Certificate,
         issuer_spki: &[u8],
     ) -> Result<CertificateEmbeddedSCT, SCTError>
-        // The one SCT is returned, ready to be checked under the issuer's key.
+        // The one SCT is returned, prepared for the check under the issuer's key.
         ensures embedded { IsEmbedded leaf.now issuer_spki.now result }
-        // Not one extension lists SCTs, or it does not list exactly one.
+        // There is not exactly one extension that lists SCTs, or it does not list exactly one.
         ensures missing { ComesWhere SCTError.OutOfMemory result (Err
             (SCTError.Parsing CertificateErrorKind.LeafSCTMissing)) (LacksSct leaf.now) }
         // The one list of SCTs is malformed, or the only SCT in it.
@@ -95,9 +95,9 @@ impl CertificateEmbeddedSCT {
         leaf: &Certificate,
         issuer_key_hash: [u8; 32],
     ) -> Result<CertificateEmbeddedSCT, SCTError>
-        // The one SCT is returned, ready to be checked under the issuer's key.
+        // The one SCT is returned, prepared for the check under the issuer's key.
         ensures embedded { IsEmbeddedWith leaf.now issuer_key_hash result }
-        // Not one extension lists SCTs, or it does not list exactly one.
+        // There is not exactly one extension that lists SCTs, or it does not list exactly one.
         ensures missing { ComesWhere SCTError.OutOfMemory result (Err
             (SCTError.Parsing CertificateErrorKind.LeafSCTMissing)) (LacksSct leaf.now) }
         // The one list of SCTs is malformed, or the only SCT in it.

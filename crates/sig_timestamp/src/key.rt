@@ -37,8 +37,8 @@ impl Key {
     ///
     /// - `KeyMalformed` if and only if the bytes are not an SPKI, or the parameters of its algorithm are there and are
     ///   neither an object identifier nor the NULL of an RSA key;
-    /// - `AlgoUnsupported` if and only if it is any other SPKI that is not a point of P-256, one without parameters
-    ///   included;
+    /// - `AlgoUnsupported` if and only if it is another SPKI that is not a point of P-256, including one without
+    ///   parameters;
     /// - `OutOfMemory`.
     pub fn new(alloc: Global, spki_bytes: &[u8]) -> Result<Key, KeyringError>
         ensures found { IfOk result (λ k. IsRingKey spki_bytes.now k.point) }

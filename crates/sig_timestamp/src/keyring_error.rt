@@ -7,17 +7,17 @@ use sig_base::OutOfMemory;
 use std::alloc::{AllocError, AllocFailed};
 use thiserror::Error;
 
-/// Why a key did not get into a keyring, or why a keyring does not vouch for a signature.
+/// Why a key was not added to a keyring, or why a keyring does not vouch for a signature.
 #[derive(Clone, Copy, Debug, PartialEq, Eq, Error)]
 pub enum KeyringError {
     /// The bytes are not an SPKI, or the parameters of its algorithm are neither an object identifier nor the NULL of
     /// an RSA key.
     #[error("KeyMalformed")]
     KeyMalformed,
-    /// The key is of another kind than a point of P-256.
+    /// The key is not a point of P-256.
     #[error("AlgoUnsupported")]
     AlgoUnsupported,
-    /// The keyring has no key of this id.
+    /// The keyring does not have a key of this id.
     #[error("KeyNotFound")]
     KeyNotFound,
     /// The checker does not accept the signature under the key of this id.

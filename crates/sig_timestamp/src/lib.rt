@@ -1,5 +1,5 @@
 //! Signed certificate timestamps (SCTs) of Certificate Transparency logs (RFC 6962): the keys of the logs, the one SCT
-//! that a certificate carries, and the TBSCertificate of the precertificate that it was made over.
+//! that a certificate carries, and the TBSCertificate of the precertificate that it was issued for.
 //!
 //! ```text
 //! struct { Version sct_version; LogID id; uint64 timestamp; CtExtensions extensions;    -- sct_list.rt

@@ -20,10 +20,10 @@ use sig_der::tag::{EXTENSIONS, SEQUENCE};
 use sig_der::write_short;
 use std::alloc::{AllocError, Global};
 
-/// Returns the TBSCertificate that a log saw before it issued the certificate's SCT: the elements of the certificate's
-/// own, each byte for byte, without the extensions that list SCTs. Only the lengths of the extensions' element, of its
-/// SEQUENCE and of the whole are written anew; if no extension is left, the element is `a3 02 30 00`. Fails only if
-/// out of memory.
+/// Returns the TBSCertificate that a log saw before it issued the certificate's SCT: the certificate's own elements,
+/// each byte for byte, without the extensions that list SCTs. Only the lengths of the extensions' element, of its
+/// SEQUENCE and of the whole are written anew; if no extension is left, the element is `a3 02 30 00`. Fails only if out
+/// of memory.
 pub fn precert_tbs_der(alloc: Global, leaf: &Certificate) -> Result<Bytes, OutOfMemory>
     // Every extension except the lists of SCTs is kept, in order, each with its bytes, and every part before them.
     ensures kept { IfOk result (IsPrecertificate leaf.now) }
@@ -61,7 +61,7 @@ fn made_anew(alloc: Global, leaf: &Certificate) -> Result<Bytes, OutOfMemory>
     write_short(alloc, SEQUENCE, &elements)
 }
 
-/// Returns the extensions that list no SCTs, one after another.
+/// Returns the extensions that do not list SCTs, one after another.
 fn kept_extensions(alloc: Global, leaf: &Certificate) -> Result<Vec<u8>, OutOfMemory>
     ensures { IfOk result (λ v. v.items ≡ ders_of (kept_extensions leaf.now)) }
 {
@@ -72,7 +72,7 @@ fn kept_extensions(alloc: Global, leaf: &Certificate) -> Result<Vec<u8>, OutOfMe
     Ok(kept)
 }
 
-/// Appends the extension, if it lists no SCTs.
+/// Appends the extension, unless it lists SCTs.
 fn push_kept(kept: &mut Vec<u8>, extension: ExtensionRef<'_>) -> Result<(), AllocError>
     ensures { OnOk result (kept.new.items ≡ kept.old.items ++ kept_of (borrowed_extension extension.entry)) }
 {

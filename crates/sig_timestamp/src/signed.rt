@@ -72,12 +72,12 @@ pub fn verify_sct<C: SignatureChecker>(
     // The key of the log's id accepts the signature.
     ensures accepted { ComesWhere SCTError.OutOfMemory result (Ok tt)
         (IsSignedByLog (C.point_accepts checker.now) sct.now keyring.now true) }
-    // What it signs has no bytes.
+    // What it signs cannot be written.
     ensures serialization { ComesWhere SCTError.OutOfMemory result (Err SCTError.Serialization) (¬ HasBytes sct.now) }
-    // It has bytes, and there is no key of the log's id.
+    // It can be written, and there is no key of the log's id.
     ensures key_not_found { ComesWhere SCTError.OutOfMemory result
         (Err (SCTError.Verification KeyringError.KeyNotFound)) (IsOfUnknownLog sct.now keyring.now) }
-    // It has bytes, there is such a key, and it does not accept the signature.
+    // It can be written, there is such a key, and it does not accept the signature.
     ensures verification_failed { ComesWhere SCTError.OutOfMemory result (Err
         (SCTError.Verification KeyringError.VerificationFailed))
         (IsSignedByLog (C.point_accepts checker.now) sct.now keyring.now false) }
@@ -108,8 +108,8 @@ fn check<C: SignatureChecker>(
     Ok(())
 }
 
-/// The bytes that the SCT's signature is over (RFC 6962 section 3.2). They are spelled only of a TBSCertificate of at
-/// most 2^24 - 1 bytes and extensions of at most 2^16 - 1. Fails only if out of memory.
+/// The bytes that the SCT's signature is over (RFC 6962 section 3.2). They exist only for a TBSCertificate of at most
+/// 2^24 - 1 bytes and extensions of at most 2^16 - 1. Fails only if out of memory.
 pub fn signed_bytes(alloc: Global, sct: &DigitallySigned) -> Result<Vec<u8>, OutOfMemory>
     requires tbs { IsLong sct.now.tbs_certificate }
     requires extensions { IsShort sct.now.extensions }
@@ -120,7 +120,7 @@ pub fn signed_bytes(alloc: Global, sct: &DigitallySigned) -> Result<Vec<u8>, Out
     // The same in one equation.
     ensures exact { IfOk result (λ v. v.items ≡ signed_bytes sct.now) }
 {
-    // The bytes that the SCT signs are those of the struct of its fields, and no others.
+    // The bytes that the SCT signs are exactly those of the struct of its fields.
     signed_structs(sct);
     spell(alloc, sct)
 }

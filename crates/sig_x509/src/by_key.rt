@@ -9,8 +9,8 @@ use sig_base::KeyList;
 use sig_certificate::Certificate;
 use std::cmp::Ordering;
 
-/// How far from the last key a search for the next one looks first: it may be one of several thousand, of which each
-/// certificate of a bundle has some.
+/// How far from the last key a search for the next one looks first: there may be several thousand keys, of which each
+/// certificate of a bundle has a few.
 const FIRST_STEP: usize = 8;
 
 /// Returns the index of the first trust anchor with this subject and one of these SPKIs. Each key is looked for from

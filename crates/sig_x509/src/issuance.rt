@@ -94,8 +94,8 @@ pub(crate) fn signs_code_at(certificate: &Certificate, time: i64) -> bool
         && may_sign_code(certificate)
 }
 
-/// Whether the signer signed the certificate. The checker is asked, which is a step, only if the signer's subject is the
-/// issuer.
+/// Whether the signer signed the certificate. The checker is asked, which is a step, only if the signer's subject is
+/// the issuer.
 pub(crate) fn is_signed_by<C: SignatureChecker, L: Ledger>(
     certificate: &Certificate,
     signer: &Certificate,
@@ -117,7 +117,7 @@ pub(crate) fn is_signed_by<C: SignatureChecker, L: Ledger>(
     )
 }
 
-/// Whether anyone at all may have signed the certificate: whether the checker lists a key, or cannot list them.
+/// Whether anything may have signed the certificate: whether the checker lists a key, or cannot list them.
 pub(crate) fn may_be_signed<C: SignatureChecker>(certificate: &Certificate, checker: &C) -> bool
     ensures { IsFalse result → IsSignedByNone (C.cert_accepts checker.now) certificate.now }
 {

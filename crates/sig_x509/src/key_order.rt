@@ -103,7 +103,7 @@ fn put_in_order(anchors: &[Certificate], order: &mut Vec<usize>)
     order.sort_unstable_by(|one, other| order_between(anchors, *one, *other));
 }
 
-/// Compares the trust anchors at two indices by SPKI and subject. An index that none has comes first.
+/// Compares the trust anchors at two indices by SPKI and subject. An index that no anchor has comes first.
 #[inline(always)]
 fn order_between(anchors: &[Certificate], one: usize, other: usize) -> Ordering
     ensures { result ≡ option_cmp signer_order (signer_at anchors.now one) (signer_at anchors.now other) }
@@ -118,7 +118,7 @@ fn order_between(anchors: &[Certificate], one: usize, other: usize) -> Ordering
 }
 
 /// Compares the SPKI of the trust anchor at an index with another, and where they are equal the subject. An index that
-/// none has comes first.
+/// no anchor has comes first.
 #[tactic(auto, using(crate::proofs::KeyOrders::steps), unfolding(crate::specs::KeyOrder::signer_order))]
 #[inline(always)]
 fn order_to(anchors: &[Certificate], index: usize, subject: &[u8], spki: &[u8]) -> Ordering

@@ -49,8 +49,8 @@ pub fn cycle_laws()
         → IsIssuerIn issuer y (before ++ x ∷ above) anchor }
 {}
 
-/// In a pool without intermediates the issuer in a path is a trust anchor that issued the leaf, and the first one is the
-/// first that did; there is no path if and only if none did.
+/// In a pool without intermediates the issuer in a path is a trust anchor that issued the leaf, and the first one is
+/// the first that did; there is no path if and only if none did.
 pub fn anchor_laws()
     ensures path { (accepts : Accepts) (pool : Pool) (c : Cert) (t : ℤ) (issuer : Issuer) → pool.intermediates ≡ []
         → HasPath accepts pool c t issuer ↔ IsIssuedAt accepts pool.anchors c t issuer }
@@ -60,8 +60,8 @@ pub fn anchor_laws()
         → HasNoPath accepts pool c t ↔ IsIssuedByNone accepts c t pool.anchors }
 {}
 
-/// `possible_paths` lists those of whom `may_sign` holds, and it holds if and only if a path, which would lead from the leaf
-/// to a trust anchor if every signature were genuine, has the signature of the one under the key of the other.
+/// `possible_paths` lists those of which `may_sign` holds, and it holds if and only if a path, which would lead from
+/// the leaf to a trust anchor if every signature were genuine, has the signature of the one under the key of the other.
 pub fn signatures_of_paths()
     ensures { SignaturesAreOfPaths }
 {}

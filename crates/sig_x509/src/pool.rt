@@ -23,7 +23,7 @@ use std::alloc::Global;
 use std::marker::Model;
 use std::sync::ledger::Ledger;
 
-/// How many intermediates a pool has at most.
+/// The greatest number of intermediates of a pool.
 const MOST_INTERMEDIATES: usize = 1024;
 
 /// Trust anchors, in order: certificates that are trusted by themselves, and have no name constraints; and the
@@ -65,7 +65,7 @@ impl CertificatePool {
     ) -> Result<CertificatePool, PoolError>
         // The anchors are those of the DERs, one by one.
         ensures anchors { IfOk result (λ p. AreAnchors trusted_roots.now p.anchors) }
-        // So are the intermediates; one that is not a certificate is absent.
+        // The intermediates are too; one that is not a certificate is absent.
         ensures intermediates { IfOk result (λ p. AreReadAs untrusted_intermediates.now p.intermediates) }
         // An error has its cause, unless memory ran out.
         ensures err { IfErr result (IsPoolRefusal trusted_roots.now untrusted_intermediates.now) }
@@ -123,8 +123,8 @@ impl CertificatePool {
     /// the subject of the other, and once for each two. Errors:
     ///
     /// - `Malformed` if and only if the leaf does not have the profile: version 3, two equal algorithms, no duplicate
-    ///   extension, no critical extensions but key usage, alternative names, basic constraints and extended key usage,
-    ///   no name constraints, and basic constraints that are absent, or well formed and not cA;
+    ///   extension, no critical extensions except key usage, alternative names, basic constraints and extended key
+    ///   usage, no name constraints, and basic constraints that are absent, or well formed and not cA;
     /// - `VerificationFailed` if and only if it has the profile, and no path leads from it to a trust anchor;
     /// - `OutOfMemory`.
     pub fn verify_cert_with_chain<C: SignatureChecker, L: Ledger>(
@@ -153,7 +153,7 @@ impl CertificatePool {
         // The number of questions is bounded.
         ensures steps { steps.new ≤ steps.old + most_questions (with_further self.now further.now) }
         // The checker's results matter only for the signatures of paths that would hold if each were genuine: another
-        // checker that says the same of these has the same result.
+        // checker that agrees on these has the same result.
         ensures asked { (other : Accepts) → AgreeOnPaths
             (C.cert_accepts checker.now) other (with_further self.now further.now) leaf.now verification_time
             → Answers PoolError.OutOfMemory (λ issuer. issuer) result
