@@ -1,8 +1,7 @@
 //! The certificate authorities of a trusted root.
 //!
 //! ```text
-//! {"certificateAuthorities":[{"certificateCount":"2","start":{..},"state":"not
-//! begun"}],"certificateAuthorityCount":"1"}
+//! {"certificateAuthorities":[{"certificateCount":"2","start":{..},"state":"not begun"}],"certificateAuthorityCount":"1"}
 //! ```
 ghost use Rattle.std.specs.Prelude.{◌≡◌, [], IfOk, length, unwrap_or};
 ghost use Rattle.sig_json.specs.Writing.{list_tree, members, members_into};

@@ -1,8 +1,7 @@
 //! A rule, as a manifest has it: an object with exactly one of six members.
 //!
 //! ```text
-//! { "all": [ { "least": 2 }, { "any": [ { "origin": "log.example" }, { "size": 1000 } ] }, { "not": { "least": 9 } } ]
-//! }
+//! { "all": [ { "least": 2 }, { "any": [ { "origin": "log.example" }, { "size": 1000 } ] }, { "not": { "least": 9 } } ] }
 //! ```
 ghost use Rattle.std.specs.Prelude.{◌≡◌, option_map};
 ghost use Rattle.sig_base.specs.Answers.{Answers};
