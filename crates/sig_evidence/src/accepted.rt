@@ -10,7 +10,7 @@ use sig_rekor::CheckpointSignature;
 use sig_shown::{ShownText, first, with_count, with_list, with_sha256};
 use std::alloc::Global;
 
-/// How many signatures of a note are looked for among the accepted ones at most.
+/// The greatest number of a note's signatures that are sought among the accepted ones.
 pub const MOST_SIGNATURES: usize = 16;
 
 /// The greatest length in bytes of a key whose SHA-256 is shown: a log has one key for all bundles that are explained.
@@ -87,7 +87,7 @@ fn with_asked(
     with_list::<ShownText>(object, alloc, "accepted", names.as_slice())
 }
 
-/// The object with the SHA-256 of a key, or of a long one with its length.
+/// The object with the SHA-256 of a key, or with the length of a long one.
 fn with_key(object: Object, alloc: Global, key: &[u8]) -> Result<Object, OutOfMemory>
     ensures { IfOk result (λ made. members made ≡ put_some (key_row key.now).0 (key_row key.now).1 (members object)) }
 {

@@ -15,7 +15,7 @@ use sig_root::{SparseAuthority, TimeRange};
 use sig_shown::{first, with_count};
 use std::alloc::Global;
 
-/// How many certificate authorities of a trusted root are shown at most.
+/// The greatest number of certificate authorities of a trusted root that are shown.
 pub const MOST_AUTHORITIES: usize = 256;
 
 /// The object with what the link `fulcio` looks at: `certificateAuthorities`, the first [`MOST_AUTHORITIES`] of the

@@ -26,7 +26,7 @@ use sig_checked_bundle::{CheckedBundle, CheckedContent};
 use sig_json::{BorrowedDocument, DocumentError, Json, Object, Scratch, required_hash};
 use std::alloc::Global;
 
-/// How many bytes a part has at most that is shown.
+/// The greatest length in bytes of a part that is shown.
 pub const MOST_COMPARED: usize = 256;
 
 /// A part of a body that is not what it has to be.
@@ -60,13 +60,13 @@ struct Got<'a> {
     payload: Option<&'a str>,
 }
 
-/// The object with what the link `body` finds: `part`, the first part of the log entry's body that is not what it has to
-/// be, and of this part `expected` and `got`, what it has to be and what it is, each where it is a text of at most
+/// The object with what the link `body` finds: `part`, the first part of the log entry's body that is not what it has
+/// to be, and `expected` and `got`, what this part has to be and what it is, each if it is a text of at most
 /// [`MOST_COMPARED`] bytes. The parts, in this order:
 ///
 /// - `json`: the body is not JSON, or holds a float;
 /// - `kind`, `apiVersion`;
-/// - of an envelope `envelopeHashAlgorithm`, `envelopeHash`, `payloadHashAlgorithm` and `payloadHash`; of an artifact
+/// - for an envelope `envelopeHashAlgorithm`, `envelopeHash`, `payloadHashAlgorithm` and `payloadHash`; for an artifact
 ///   `digestAlgorithm` and `digest`;
 /// - `signature`, and `certificate`, the PEM of the bundle's certificate, both in base64;
 /// - `members`: another member is there, which a body about an artifact may not have.

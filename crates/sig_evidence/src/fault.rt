@@ -14,8 +14,8 @@ use sig_table::{Cause, DocumentFault, MemberFault};
 use std::alloc::Global;
 
 /// The object with what the links `root-json` and `bundle-json` find: `path`, where the first member is that breaks its
-/// row of the table, from outside; and `why`, which is `Absent`, `OtherKind`, `BeyondRange` or `NotAlone`. Without more
-/// if the text is not JSON or holds a float. Fails only if out of memory.
+/// row of the table, from outside; and `why`, which is `Absent`, `OtherKind`, `BeyondRange` or `NotAlone`. No member
+/// is added if the text is not JSON or holds a float. Fails only if out of memory.
 pub fn with_document_fault(
     object: Object,
     alloc: Global,

@@ -13,7 +13,7 @@ use sig_name::name_text;
 use sig_shown::{ShownCount, first, with_count, with_list, with_shown};
 use std::alloc::Global;
 
-/// How many indices of trust anchors are shown at most.
+/// The greatest number of indices of trust anchors that are shown.
 pub const MOST_ANCHORS: usize = 64;
 
 /// The object with what the link `issuer` begins with: `issuerName`, the DER of the issuer's name in a certificate, in

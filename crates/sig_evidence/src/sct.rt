@@ -12,7 +12,7 @@ use sig_timestamp::{CertificateEmbeddedSCT, DigitallySigned, SCTError};
 use std::alloc::Global;
 
 /// The object with what the one SCT of a certificate names: `logId`, the id of the log in hexadecimal; `timestamp`, in
-/// milliseconds since 1970; and `time`, the second of it in both forms. The object is empty if the certificate does not
+/// milliseconds since 1970; and `time`, the second of it in both forms. No member is added if the certificate does not
 /// have exactly one SCT. Fails only if out of memory.
 pub fn with_sct(
     object: Object,

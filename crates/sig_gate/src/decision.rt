@@ -13,7 +13,7 @@ use sig_base::OutOfMemory;
 use sig_manifest::Rule;
 use std::alloc::Global;
 
-/// Returns whether some bundle is verified, and the rule holds of those that are. Fails only if out of memory.
+/// Returns whether at least one bundle is verified, and the rule holds of those that are. Fails only if out of memory.
 pub fn is_admitted(
     alloc: Global,
     rule: &Rule,
@@ -34,7 +34,7 @@ pub fn is_admitted(
     Ok(holds(rule, &shown))
 }
 
-/// Whether some bundle is verified.
+/// Whether at least one bundle is verified.
 pub(crate) fn has_verified(bundles: &[BundleVerdict]) -> bool
     ensures { result ≡ list_any is_verified bundles.now }
 {

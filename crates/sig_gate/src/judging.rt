@@ -22,8 +22,8 @@ use sig_policy::HeldPolicy;
 use sig_verify::{HeldRoot, Link};
 use std::alloc::Global;
 
-/// The verdict on each bundle of an artifact. The artifact's trusted root and its policy are held afterwards, if it has a
-/// bundle. Fails only if out of memory.
+/// The verdict on each bundle of an artifact. The artifact's trusted root and its policy are held afterwards, if it has
+/// a bundle. Fails only if out of memory.
 pub(crate) fn judge_bundles<'a, C: SignatureChecker>(
     alloc: Global,
     held: &mut NamedRoots,
@@ -126,7 +126,7 @@ fn verify<C: SignatureChecker>(
     }
 }
 
-/// The verdict where this link is the first that fails; without one memory ran out.
+/// The verdict if this link is the first that fails; `None` means that memory ran out.
 fn refused(link: Option<Link>) -> Result<BundleVerdict, OutOfMemory>
     ensures { IfOk result (IsRefusedBy link) }
 {

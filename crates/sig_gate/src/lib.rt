@@ -8,7 +8,7 @@
 //! ```
 //!
 //! The layer above uses two facts. The verdict on a bundle is the one that offline verification gives under the trusted
-//! root and the policy that the artifact names; and an artifact is admitted if and only if some bundle of it is
+//! root and the policy that the artifact names; and an artifact is admitted if and only if one of its bundles is
 //! verified and its rule holds of those that are. The report is the text of names and verdicts that the definition
 //! gives.
 #![tactic(auto)]

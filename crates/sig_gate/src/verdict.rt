@@ -18,7 +18,7 @@ pub type BundleVerdicts = OwnedList<BundleVerdict>;
 /// The result for an artifact.
 #[derive(Drop)]
 pub struct Verdict {
-    /// Whether it is admitted: some bundle of it is verified, and its rule holds of those that are.
+    /// Whether it is admitted: at least one of its bundles is verified, and its rule holds of those that are.
     pub admitted: bool,
     /// The results for its bundles, in order.
     pub bundles: BundleVerdicts,

@@ -9,8 +9,8 @@
 //! admitted 1 of 2
 //! ```
 //!
-//! The layer above uses four facts. [`gate_reply`] makes the reply that is defined: the report of the verdicts, or
-//! `refused request` if and only if the text is not a manifest. [`report_reply`] makes it of verdicts that a caller
+//! The layer above uses four facts. [`gate_reply`] makes the reply of the definition: the report of the verdicts, or
+//! `refused request` if and only if the text is not a manifest. [`report_reply`] makes it from verdicts that a caller
 //! has. [`gate_questions`] lists the signatures that the reply can depend on, each once. And nothing but these matters.
 #![tactic(auto)]
 

@@ -17,7 +17,7 @@ use std::alloc::Global;
 pub const MOST_ASKED: usize = 67_108_864;
 
 /// Returns the reply to a request's text: the list of the signatures that `gate` asks for, with status 0. They are
-/// those that [`questions`](sig_questions::questions) lists of each bundle of each artifact in order, under the
+/// those that [`questions`](sig_questions::questions) lists for each bundle of each artifact in order, under the
 /// artifact's trusted root, the time of the manifest and the artifact's digest, each signature once, in the order in
 /// which they come first. A bundle does not ask for any if a link up to `issuer` fails whatever is accepted.
 ///

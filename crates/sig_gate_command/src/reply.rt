@@ -15,8 +15,8 @@ use std::alloc::Global;
 /// Returns the reply to a request's text, a manifest: the report of the verdicts on its artifacts, by the signatures
 /// that it accepts. For each artifact in order it has the first line that applies of
 ///
-/// - `artifact NAME admit`: some bundle of it is verified, and its rule holds of those that are;
-/// - `artifact NAME deny rule`: some bundle is verified, and the rule does not hold;
+/// - `artifact NAME admit`: at least one of its bundles is verified, and its rule holds of those that are;
+/// - `artifact NAME deny rule`: at least one bundle is verified, and the rule does not hold;
 /// - `artifact NAME deny none`: no bundle is verified;
 ///
 /// then for each bundle in order, PLACE being its index, `bundle PLACE verified I N` with the index and the tree size

@@ -1,5 +1,5 @@
 //! The texts that the rules of a policy ask for, each once and in order, so that whether a rule holds is found without
-//! a look at the others.
+//! going over the others.
 
 ghost use Rattle.std.specs.Prelude.{◌≡◌, ◌||◌, false, not, IfOk, OnOk};
 ghost use Rattle.sig_policy.specs.AskedTexts.{AreAskedBy, Tests, one_asked, passes, said_tests, unsaid_tests};

@@ -17,7 +17,7 @@ pub enum PolicyError {
     /// must have.
     #[error("ExtensionNotFound")]
     ExtensionNotFound,
-    /// The extension says something else than the policy asks for.
+    /// The extension does not say what the policy requires.
     #[error("ExtensionCheckFailed")]
     ExtensionCheckFailed {
         /// The policy's name, or the extension's.

@@ -68,7 +68,7 @@ impl VerificationPolicy for Identity {
     ///
     /// - the issuer's refusal;
     /// - `ExtensionNotFound` if there is no subject alternative name, if there are several, and if it is malformed;
-    /// - `ExtensionCheckFailed` with the identities that it gives, joined by a comma and a blank.
+    /// - `ExtensionCheckFailed` with the identities that it gives, joined by a comma and a space.
     fn verify(&self, alloc: Global, cert: &Certificate) -> PolicyResult {
         self.issuer.verify(alloc, cert)?;
         verify_name(alloc, self.identity.as_str(), cert)
@@ -132,7 +132,7 @@ fn contains(texts: &[&str], text: &str) -> bool
     texts.contains(&text)
 }
 
-/// Returns the texts with a comma and a blank between each two. Fails only if out of memory.
+/// Returns the texts with a comma and a space between each two. Fails only if out of memory.
 #[tactic(auto, using(crate::proofs::IdentityLaws::join_by_seen))]
 fn joined(alloc: Global, texts: &[&str]) -> Result<Text, OutOfMemory>
     ensures { IfOk result (λ s. s ≡ join_by (λ t. t) (codes ", ") (map (λ t. t.now) texts.now)) }

@@ -44,7 +44,7 @@ pub enum LeafPolicy {
 /// Policies in order.
 pub type LeafPolicies = OwnedList<LeafPolicy>;
 
-/// What a request asks of the signing certificate.
+/// What a request requires of the signing certificate.
 #[derive(Drop)]
 pub enum RequestPolicy {
     /// Each policy of the list has to hold.
@@ -58,7 +58,7 @@ impl VerificationPolicy for LeafPolicy {
 
     ghost refusal = { leaf_policy_refusal };
 
-    /// Returns what the policy returns that it holds.
+    /// Returns the result of the policy that it holds.
     fn verify(&self, alloc: Global, cert: &Certificate) -> PolicyResult {
         match self {
             LeafPolicy::OIDCIssuer(policy) => policy.verify(alloc, cert),
@@ -81,8 +81,8 @@ impl VerificationPolicy for RequestPolicy {
     /// of those that do not hold, in order. `Any`: returns `Ok` if and only if at least one holds, else `AnyOf` with
     /// the number of policies.
     ///
-    /// Each refusal has a copy of what the certificate says, so that many of a long text take their product in time
-    /// and in memory. [`holds_of`](RequestPolicy::holds_of) does not make any.
+    /// Each refusal has a copy of what the certificate says, so that many refusals of a long text take their product in
+    /// time and in memory. [`holds_of`](RequestPolicy::holds_of) does not make any.
     fn verify(&self, alloc: Global, cert: &Certificate) -> PolicyResult {
         // The extensions are looked up once, since whoever makes a certificate chooses how many it has.
         let said = said_by(alloc, cert)?;
@@ -94,9 +94,9 @@ impl VerificationPolicy for RequestPolicy {
 }
 
 impl RequestPolicy {
-    /// Whether the policy holds of the certificate. It makes no refusal: time and memory are linear in the certificate
-    /// and in the policies, except for the logarithm of the number of names. [`rule_laws`](crate::rule_laws) says which
-    /// extension each policy compares. Fails only if out of memory.
+    /// Whether the policy holds of the certificate. It does not make a refusal: time and memory are linear in the
+    /// certificate and in the policies, except for the logarithm of the number of names.
+    /// [`rule_laws`](crate::rule_laws) says which extension each policy compares. Fails only if out of memory.
     pub fn holds_of(&self, alloc: Global, cert: &Certificate) -> Result<bool, OutOfMemory>
         ensures { IfOk result (λ b. b ≡ request_holds self.now cert.now) }
     {

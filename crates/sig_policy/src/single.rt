@@ -15,7 +15,7 @@ use sig_base::{OutOfMemory, Text};
 use sig_certificate::{Certificate, Lookup};
 use std::alloc::Global;
 
-/// A policy that compares a text with the value of one extension, which is the text itself and no DER.
+/// A policy that compares a text with the value of one extension, which is the text itself, not DER.
 pub trait SingleX509ExtPolicy {
     // The policy's name, the contents octets of the extension's object identifier, and the text asked for.
     ghost title: { List ℕ };
@@ -56,10 +56,10 @@ pub fn verify_single<T: SingleX509ExtPolicy>(
     // The extension has the text that is asked for.
     ensures accepted { ComesWhere PolicyError.OutOfMemory result (Ok tt) (HasText T.identifier cert.now
         (T.asked policy.now)) }
-    // It has no text.
+    // The extension does not have a text.
     ensures extension_not_found { ComesWhere PolicyError.OutOfMemory result (Err PolicyError.ExtensionNotFound)
         ((text : List ℕ) → ¬ HasText T.identifier cert.now text) }
-    // It has another.
+    // The extension has another text.
     ensures extension_check_failed { (actual : List ℕ) → ComesWhere PolicyError.OutOfMemory result
         (Err (PolicyError.ExtensionCheckFailed T.title (T.asked policy.now) actual))
         (HasText T.identifier cert.now actual × (actual ≢ T.asked policy.now)) }

@@ -1,5 +1,5 @@
-//! Sets of texts that rules ask for, and what a certificate says of them. A set has each text once, so that it ends
-//! after two texts at most whether each is the one that the certificate says.
+//! Sets of texts that rules ask for, and what a certificate says of them. A set has each text once, so that whether
+//! each is the one that the certificate says is known after at most two texts.
 
 ghost use Rattle.std.specs.Prelude.{◌≡◌, ◌&&◌, ℕ, List, Bool, not, ◌||◌, OnOk, option_map, map};
 ghost use Rattle.std.specs.List.{list_any};

@@ -20,17 +20,17 @@ pub struct AskedRoot {
     pub(crate) trust: Result<AskedTrust, Link>,
 }
 
-/// What the questions of bundles are made of.
+/// What the questions of bundles are made from.
 #[derive(Drop)]
 pub(crate) struct AskedTrust {
-    /// It checks the links of a bundle that ask for no signature.
+    /// The verifier, which checks the links of a bundle that do not ask for a signature.
     pub(crate) verifier: Verifier,
     pub(crate) parts: TrustParts,
 }
 
 impl AskedRoot {
-    /// Returns what the trusted root that this text is gives at a time in whole seconds since 1970. Fails with `Link`
-    /// of `root-json` if and only if the text is not a trusted root, unless memory runs out, and else only with
+    /// Returns what this text, a trusted root, gives at a time in whole seconds since 1970. Fails with `Link` of
+    /// `root-json` if and only if the text is not a trusted root, unless memory runs out, and else only with
     /// `OutOfMemory`. The links `fulcio`, `anchor` and `ctfe` come after `bundle-json`: the first of them that fails is
     /// kept, and [`AskedRoot::questions`] fails with it.
     pub fn read(alloc: Global, text: &[u8], now: i64) -> Result<AskedRoot, NoQuestions>

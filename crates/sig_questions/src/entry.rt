@@ -42,7 +42,7 @@ pub(crate) fn push_entry(
     let name = Text::from(hex::encode(alloc, id.as_slice())?);
     match keys.get(name.as_str()) {
         Some(spki) => {
-            // So is the key.
+            // The key is bytes.
             are_bytes(spki);
             push_under(rows, alloc, entry, spki)
         }

@@ -57,7 +57,7 @@ fn failed_link(error: VerificationError) -> Option<Link>
     link
 }
 
-/// The error of the chain of trust that a verifier's error is. Of a digest no artifact is read.
+/// The error of the chain of trust that a verifier's error is. No artifact is read for a digest.
 fn offline_error(error: VerificationError) -> OfflineError
     ensures { result ≡ of_verification error }
 {
@@ -70,8 +70,8 @@ fn offline_error(error: VerificationError) -> OfflineError
     }
 }
 
-/// What the first link that fails under a checker that accepts nothing says of those before `issuer`; without one memory
-/// ran out.
+/// What the first link that fails under a checker that accepts nothing says of those before `issuer`; without one
+/// memory ran out.
 fn front_result(link: Option<Link>) -> Result<(), NoQuestions>
     ensures { result ≡ front_result link }
 {

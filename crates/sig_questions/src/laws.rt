@@ -47,7 +47,7 @@ pub fn one_list()
 
 /// The keys are those of the trust anchors in order, and then those of the further certificates in order. The
 /// signatures are that of the certificate under each key in order, and then those of the further certificates in order,
-/// each so.
+/// each in the same way.
 pub fn places()
     ensures signers { SignersAreInOrder }
     ensures pairs { PairsAreInOrder }
@@ -64,7 +64,7 @@ pub fn few()
     ensures { QuestionsAreFew }
 {}
 
-/// A link before a question is the first that fails if and only if it is so whatever the checker and the policy say.
+/// A link before a question is the first that fails if and only if this holds whatever the checker and the policy say.
 pub fn refusals()
     ensures { RefusalsAreForAll }
 {}

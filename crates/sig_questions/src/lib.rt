@@ -1,8 +1,8 @@
 //! The questions that the chain of trust of a signed bundle asks of a signature checker, as rows of a table.
 //!
 //! The layer above uses one fact. [`questions`] returns the rows that the chain of trust can depend on: two checkers
-//! that say the same of each of them have the same links that hold. Or it says which link fails whatever the checker
-//! says. [`AskedRoot`] lists them of many bundles under one trusted root, which is read once.
+//! that agree on each of them have the same links that hold. Or it says which link fails whatever the checker says.
+//! [`AskedRoot`] lists them for many bundles under one trusted root, which is read once.
 #![tactic(auto)]
 
 mod anchors;

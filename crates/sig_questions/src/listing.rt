@@ -142,8 +142,8 @@ pub fn questions(
 }
 
 impl AskedRoot {
-    /// Returns what [`questions`] returns of the text and the time that this root was made of, and of this digest and
-    /// bundle; the root is not read again.
+    /// Returns what [`questions`] returns for the text and the time that this root was made from, and for this digest
+    /// and bundle; the root is not read again.
     pub fn questions(
         &self,
         alloc: Global,
@@ -160,7 +160,7 @@ impl AskedRoot {
         // The rows are those of each group of links, one after the other.
         ensures order { (root : List ℕ) (now : ℤ) → IsAskedRootOf root now self.now
             → IfOk result (AreQuestions (inputs_of root now digest.now bundle.now)) }
-        // Of two positions the smaller is of an earlier link, or of the same link and an earlier place.
+        // The smaller of two positions is that of an earlier link, or of the same link and an earlier place.
         ensures places { (root : List ℕ) (now : ℤ) → IsAskedRootOf root now self.now
             → IfOk result (AreInOrder (IsAskedAt (inputs_of root now digest.now bundle.now))) }
         // The number of trust anchors bounds the number of rows.
@@ -223,7 +223,7 @@ fn list_under(
 ) -> Result<OwnedList<AcceptedRow>, NoQuestions>
     ensures { IsAnsweredUnder trust.now digest.now bundle.now most result }
 {
-    // Bytes are at most one certificate; and what is listed of texts that were read is the answer to them.
+    // Bytes are at most one certificate; and what is listed for texts that were read is the result for them.
     certificates();
     listed_texts();
     match check_front(alloc, &trust.verifier, digest, bundle) {

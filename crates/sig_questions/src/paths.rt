@@ -11,7 +11,7 @@ use sig_certificate::Certificate;
 use sig_x509::{PossiblePaths, PossibleSigners};
 use std::alloc::Global;
 
-/// The rows of the leaf's signature, and then of those of the intermediates in order, each under the keys of all who
+/// The rows of the leaf's signature, and then of those of the intermediates in order, each under the keys of all that
 /// may have signed.
 pub(crate) fn push_certificates(
     rows: &mut Rows,

@@ -40,7 +40,7 @@ pub struct HeadText {
     /// A signed note with the log's size and root.
     pub checkpoint: Text,
     /// The consistency proof from the head before this one, the smallest tree's hash first. That of the first head is
-    /// not looked at.
+    /// not checked.
     pub hashes: Hashes,
 }
 
