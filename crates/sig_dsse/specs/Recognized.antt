@@ -26,7 +26,7 @@ digest_or_malformed name digest (Ok bytes) = Ok (digest bytes ∷ [])
 digest_or_malformed name digest (Err e) = Err (Malformed name)
 
 -- the digest of an entry: hexadecimal digits in either case (RFC 4648 section 8) of 32 bytes under `sha256`, of 64
--- under `sha512`; `None` under another name
+-- under `sha512`; an empty list under another name
 unfoldable pub entry_digest : List ℕ × List ℕ → Result (List ArtifactDigest) SubjectFault
 entry_digest entry =
     if bytes_eq entry.0 (codes "sha256") then digest_or_malformed NamedSha256 Sha256 (decode_sized entry.1 32)

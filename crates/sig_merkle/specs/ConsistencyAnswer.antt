@@ -103,7 +103,7 @@ IsConsistencyAnswer old_size new_size hashes old new (Err (MismatchedRoot expect
 IsConsistencyAnswer old_size new_size hashes old new (Err IndexGtTreeSize) = ⊥
 
 -- how many pairs of children a consistency check hashes at most: two for each hash of a proof whose roots were
--- compared, and `None` if it fails otherwise
+-- compared, and 0 if it fails otherwise
 abbrev pub most_steps : Result (Unit {0}) MerkleProofError → ℕ → ℕ
 most_steps (Ok _) count = 2 * count
 most_steps (Err (MismatchedRoot _ _)) count = 2 * count

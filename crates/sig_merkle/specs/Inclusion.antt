@@ -69,7 +69,7 @@ IsInclusionAnswer index leaf size hashes root (Err UnexpectedEmptyProof) = ⊥
 IsInclusionAnswer index leaf size hashes root (Err (NewTreeSmaller _ _)) = ⊥
 IsInclusionAnswer index leaf size hashes root (Err WrongEmptyTreeHash) = ⊥
 
--- how many pairs of children an inclusion check hashes: all hashes of a path whose root was compared, and `None` if the
+-- how many pairs of children an inclusion check hashes: all hashes of a path whose root was compared, and 0 if the
 -- index or the number of hashes is wrong
 abbrev pub inclusion_steps : Result (Unit {0}) MerkleProofError → ℕ → ℕ
 inclusion_steps (Ok _) count = count

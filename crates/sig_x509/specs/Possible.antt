@@ -109,14 +109,14 @@ pub record SignedUnder : Type 0 where
   pub certificate : Cert
   pub signers : List Cert
 
--- the signatures of these signers
+-- a certificate with those of these signers that may have signed it
 abbrev pub signed_under : List SignerOne → SignedOne → SignedUnder
 signed_under xs y = record {
   certificate = y.certificate;
   signers = map (λ x. x.certificate) (filter (may_sign y) xs);
 }
 
--- the signatures of the trust anchors in order, and then the intermediates
+-- the same for the trust anchors in order, and then the intermediates
 abbrev pub under_all : List Cert → List Cert → ℤ → SignedOne → SignedUnder
 under_all anchors further t y = signed_under (all_signers anchors further t) y
 
