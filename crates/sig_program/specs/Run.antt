@@ -79,7 +79,7 @@ HandsRests None new bytes = ⊤
 HandsRests (Some before) new bytes =
     (pieces : List (List ℕ)) × (new ≡ Some (before ++ pieces)) × AllByRecursion (IsRestOf bytes) pieces
 
--- each write was given all that was left of the output; if the output is empty, nothing was given
+-- each write was given all that was left of the output; or there is no output, and nothing was given
 abbrev pub WritesRests : List (List ℕ) → Option (List ℕ) → Option (List ℕ) → Option (List (List ℕ))
     → Option (List (List ℕ)) → Type 0
 WritesRests words left_old left_new handed_old handed_new =

@@ -28,7 +28,7 @@ IsLong content = length content < 2 ^ 24
 
 -- ---- how they are read
 
--- the first bytes, `count` of them, and what follows them
+-- the first `n` bytes, and what follows them
 unfoldable pub bytes_at : ℕ → List ℕ → Option (List ℕ × List ℕ)
 bytes_at n bytes = if nat_lt (length bytes) n then None else Some (take n bytes, drop n bytes)
 

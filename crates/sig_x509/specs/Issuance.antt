@@ -67,7 +67,7 @@ is_genuine_under accepts c key = accepts key c.algorithm c.tbs c.signature
 abbrev pub is_signed_by : Accepts → Cert → Cert → Bool
 is_signed_by accepts c x = bytes_eq c.issuer x.subject && accepts x.spki c.algorithm c.tbs c.signature
 
--- no trust anchor signed it
+-- no certificate signed it
 abbrev pub IsSignedByNone : Accepts → Cert → Type 0
 IsSignedByNone accepts c = (x : Cert) → is_signed_by accepts c x ≡ false
 
