@@ -19,7 +19,7 @@ use sig_json::JsonError;
 use sig_key::VerificationKeys;
 use std::alloc::Global;
 
-/// What a bundle of `cosign` attests of an image. The log vouches for the signature; whether the certificate is
+/// What a bundle of `cosign` attests about an image. The log vouches for the signature; whether the certificate is
 /// trusted, and whether its key signed, is not checked.
 #[derive(Drop)]
 pub struct Attestation {
@@ -47,7 +47,7 @@ struct Evidence {
 }
 
 /// Reads what a bundle of `cosign` attests of the image whose manifest has the digest `source_image_digest`, which may
-/// begin with `sha256:`. Errors, the first that applies, all of them `UnexpectedError` but those that say so:
+/// begin with `sha256:`. Errors, the first that applies, all `UnexpectedError` except where another is named:
 ///
 /// - `BundleUnreadable`: the bytes are not a bundle, as [`read_bundle`] says;
 /// - `ContentNotDsse`: its content is not an envelope;
@@ -61,7 +61,7 @@ struct Evidence {
 /// - `MaterialNotCertificate`: it is not a single certificate;
 /// - `EntryCount` with the number of log entries, which is not one;
 /// - `KeysMissing`: no keys of logs are given;
-/// - `LogIdMissing`: the entry names no log;
+/// - `LogIdMissing`: the entry does not name a log;
 /// - `RekorPublicKeyNotFoundError`, its own error, with the log id in lower-case hexadecimal: there is no key of this
 ///   id;
 /// - those of [`vouched`](sig_verify::vouched) from `PromiseMissing` to `CheckpointMissing`; and
@@ -123,7 +123,7 @@ fn attested_by_text<C: SignatureChecker>(
     }
 }
 
-/// What the bundle attests of the image.
+/// Returns what the bundle attests about the image.
 fn attested<C: SignatureChecker>(
     alloc: Global,
     bundle: &Bundle,
@@ -180,7 +180,7 @@ fn evidence_of<C: SignatureChecker>(
     Ok(copied_evidence(alloc, envelope, signature, certificate, entry)?)
 }
 
-/// The evidence of these parts. Fails only if out of memory.
+/// Returns the evidence of these parts. Fails only if out of memory.
 fn copied_evidence(
     alloc: Global,
     envelope: &DsseEnvelope,

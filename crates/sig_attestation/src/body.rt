@@ -112,7 +112,8 @@ pub(crate) fn check_body(
     }
 }
 
-/// The same, and it has one signature and spells its hashes in lower-case hexadecimal. Fails only if out of memory.
+/// Whether the same holds, and the body has one signature and its hashes are in lower-case hexadecimal. Fails only if
+/// out of memory.
 #[tactic(auto, unfolding(crate::specs::Body::is_logged_once))]
 fn is_logged_once(
     alloc: Global,

@@ -10,7 +10,7 @@ use sig_bundle::{
     VerificationMaterial,
 };
 
-/// The envelope's signature. Fails with `SignatureCount` if there is not one.
+/// The envelope's signature. Fails with `SignatureCount` if there is not exactly one.
 pub(crate) fn only_signature(signatures: &DsseSignatures) -> Result<&DsseSignature>
     ensures { borrowed_now result ≡ signature_in signatures.now }
 {
@@ -30,7 +30,7 @@ pub(crate) fn material_of(bundle: &Bundle) -> Result<&VerificationMaterial>
     }
 }
 
-/// The certificate (DER). Fails with `MaterialMissing` if the material names no signer, and with
+/// The certificate (DER). Fails with `MaterialMissing` if the material does not name a signer, and with
 /// `MaterialNotCertificate` if it is not a single certificate.
 pub(crate) fn certificate_of(content: &Option<MaterialContent>) -> Result<&Bytes>
     ensures { borrowed_now result ≡ certificate_in content.now }
@@ -44,7 +44,7 @@ pub(crate) fn certificate_of(content: &Option<MaterialContent>) -> Result<&Bytes
     }
 }
 
-/// The log entry. Fails with `EntryCount` if there is not one.
+/// The log entry. Fails with `EntryCount` if there is not exactly one.
 pub(crate) fn only_entry(entries: &LogEntries) -> Result<&TransparencyLogEntry>
     ensures { borrowed_now result ≡ entry_in entries.now }
 {

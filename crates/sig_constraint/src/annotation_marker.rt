@@ -39,7 +39,7 @@ impl Constraint for AnnotationMarker {
     /// Else each name has its text afterwards, and everything else stays: other annotations, creator and timestamp, and
     /// the other parts of the layer. A payload without `optional` gets one with only these annotations, and annotations
     /// that are not an object are replaced. Fails only if out of memory; the layer is then unchanged, since the
-    /// annotations are made before it is touched.
+    /// annotations are made before it changes.
     fn add_constraint(&self, alloc: Global, signature_layer: &mut SignatureLayer) -> Result<bool>
         ensures applied { IsApplied (marker_gives self.now.annotations (seen_layer signature_layer.old))
             signature_layer.old signature_layer.new result }
@@ -58,7 +58,7 @@ impl Constraint for AnnotationMarker {
     }
 }
 
-/// Whether no name among these has another value than its text.
+/// Whether none of these names has a value other than its text.
 fn are_free(optional: &Option<Optional>, annotations: &TextMap) -> bool
     ensures { result ≡ are_free (option_map seen_optional optional.now) annotations.now }
 {

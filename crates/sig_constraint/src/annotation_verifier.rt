@@ -12,7 +12,7 @@ use sig_cosign::SignatureLayer;
 use std::alloc::Global;
 
 /// Requires that a layer's payload has these annotations. It does not check a signature: who wrote the payload is
-/// checked by [`PublicKeyVerifier`](crate::PublicKeyVerifier) of the same layer.
+/// checked by [`PublicKeyVerifier`](crate::PublicKeyVerifier) for the same layer.
 #[derive(Drop)]
 pub struct AnnotationVerifier {
     /// The annotations: names with their values, a number or a truth value as it is written.

@@ -14,8 +14,8 @@ use sig_signer::pool_error;
 use sig_x509::{Certificate, CertificatePool, uncounted};
 use std::alloc::Global;
 
-/// Checks that the pool of a chain finds the certificate's issuer now, in seconds since 1970; without a chain nothing is
-/// asked. Errors, the first that applies:
+/// Checks that the pool of a chain finds the certificate's issuer now, in seconds since 1970; without a chain it
+/// passes. Errors, the first that applies:
 ///
 /// - `CertificatePoolError(Anchor)` with the index of the first of the chain that is not a trust anchor;
 /// - `CertificatePoolError` of `Malformed` or `VerificationFailed`, as [`CertificatePool::verify_cert_with_time`] says;

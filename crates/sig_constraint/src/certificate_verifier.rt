@@ -24,7 +24,7 @@ use sig_x509::{
 };
 use std::alloc::Global;
 
-/// Asks that a layer is signed by the key of a certificate, and that a log took it while the certificate was valid.
+/// Requires that a layer is signed by the key of a certificate, and that a log took it while the certificate was valid.
 #[derive(Drop)]
 pub struct CertificateVerifier<C> {
     certificate: Certificate,
@@ -36,16 +36,16 @@ pub struct CertificateVerifier<C> {
 impl<C: SignatureChecker + Drop> CertificateVerifier<C> {
     /// Returns the constraint that a layer is signed by the key of the certificate that the bytes (DER) are.
     /// `require_rekor_bundle` says whether a layer that no log has is rejected; it should be `true`, since without a
-    /// log nothing says when the layer was signed. `cert_chain` are the trust anchors (DER) that may have issued the
-    /// certificate; without it the certificate is trusted by itself, and the end of its validity is not checked.
-    /// `now` is in seconds since 1970.
+    /// log there is no proof of when the layer was signed. `cert_chain` are the trust anchors (DER) that may have
+    /// issued the certificate; without it the certificate is trusted by itself, and the end of its validity is not
+    /// checked. `now` is in seconds since 1970.
     ///
     /// Errors, the first that applies:
     ///
     /// - `X509Error`: the bytes are not a certificate (RFC 5280 section 4.1);
     /// - those of [`verify_key_usages`], [`verify_has_san`] and [`verify_validity`] by now;
     /// - if a chain is given, `CertificatePoolError`: of `Anchor` with the index of the first of the chain that is not
-    ///   a trust anchor; of `Malformed` or `VerificationFailed` if their pool finds no issuer now;
+    ///   a trust anchor; of `Malformed` or `VerificationFailed` if their pool does not find an issuer now;
     /// - those of [`CosignVerificationKey::try_from_spki`], for the certificate's key;
     /// - `OutOfMemory`.
     pub fn from_der(
@@ -84,7 +84,7 @@ impl<C: SignatureChecker + Drop> VerificationConstraint for CertificateVerifier<
     ghost holds = { λ v l. is_certified (C.spki_accepts v.checker) v.key v.certificate v.require_rekor_bundle l };
 
     /// Whether the layer is signed by the certificate's key, as [`SignatureLayer::is_signed_by_key`] says, and the time
-    /// of its bundle is within the certificate's validity; without a bundle, whether none is required. Fails only if
+    /// of its bundle is within the certificate's validity; without a bundle, whether it is not required. Fails only if
     /// out of memory.
     fn verify(&self, alloc: Global, signature_layer: &SignatureLayer) -> Result<bool>
         ensures verdict { IsVerdict (is_certified (C.spki_accepts self.now.checker) self.now.key self.now.certificate

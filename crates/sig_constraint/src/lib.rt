@@ -12,8 +12,8 @@
 //!
 //! The layer above uses three facts. A verification constraint is a predicate of layers, and `verify_constraints`
 //! returns `Ok` if and only if each constraint is satisfied by at least one layer, else the ascending indices of those
-//! that none satisfies. A constraint makes a layer of one to which it applies, and `apply_constraints` leaves what the
-//! constraints give one after another. Both are proved for every implementation of the two traits.
+//! that no layer satisfies. A constraint makes a layer of one to which it applies, and `apply_constraints` leaves what
+//! the constraints give one after another. Both are proved for every implementation of the two traits.
 //!
 //! **Each constraint may be satisfied by another layer**: give one layer at a time if all of them are to hold of the
 //! same one. **Only [`PublicKeyVerifier`] and [`CertificateVerifier`] check a signature over the layer**: a layer that

@@ -18,7 +18,7 @@ use sig_cosign::SignatureLayer;
 use sig_key::CosignVerificationKey;
 use std::alloc::Global;
 
-/// Asks that a layer is signed by a key.
+/// Requires that a layer is signed by a key.
 #[derive(Drop)]
 pub struct PublicKeyVerifier<C> {
     key: CosignVerificationKey,
@@ -64,7 +64,8 @@ impl<C: SignatureChecker + Drop> PublicKeyVerifier<C> {
 impl<C: SignatureChecker + Drop> VerificationConstraint for PublicKeyVerifier<C> {
     ghost holds = { λ v l. is_signed_by (C.spki_accepts v.checker) v.key l };
 
-    /// Whether the layer is signed by the key, as [`SignatureLayer::is_signed_by_key`] says. Fails only if out of memory.
+    /// Whether the layer is signed by the key, as [`SignatureLayer::is_signed_by_key`] says. Fails only if out of
+    /// memory.
     fn verify(&self, alloc: Global, signature_layer: &SignatureLayer) -> Result<bool>
         ensures verdict { IsVerdict (is_signed_by (C.spki_accepts self.now.checker) self.now.key
             (seen_layer signature_layer.now)) result }

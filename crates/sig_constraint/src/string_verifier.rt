@@ -14,7 +14,7 @@ pub enum StringVerifier {
     /// Only this text.
     ExactMatch(Text),
     /// The texts in which the pattern has a match, anywhere: `^` and `$` tie it to the ends. What the pattern means is
-    /// what `regex` makes of it.
+    /// that of `regex`.
     Regex(Regex),
 }
 

@@ -19,7 +19,7 @@ use std::alloc::Global;
 pub struct CertSubjectUrlVerifier {
     /// The URI that the certificate has to name, byte for byte.
     pub url: Text,
-    /// The issuer of the word for it.
+    /// The issuer that the certificate has to name.
     pub issuer: Text,
 }
 

@@ -49,11 +49,11 @@ impl From<OutOfMemory> for SigstoreVerifyConstraintsError {
     }
 }
 
-/// Checks that each constraint is satisfied by at least one layer, maybe each by another. It asks each constraint of
-/// each layer up to the first that satisfies it: the time is that of these calls. Errors:
+/// Checks that each constraint is satisfied by at least one layer, maybe each by a different one. It asks each
+/// constraint of each layer up to the first that satisfies it: the time is that of these calls. Errors:
 ///
-/// - `Unsatisfied` with the ascending indices of the constraints that no layer satisfies, if there are any; a constraint
-///   whose call fails, except with `OutOfMemory`, is not satisfied by that layer;
+/// - `Unsatisfied` with the ascending indices of the constraints that no layer satisfies, if there are any; a
+///   constraint whose call fails, except with `OutOfMemory`, is not satisfied by that layer;
 /// - `OutOfMemory`.
 pub fn verify_constraints(
     alloc: Global,

@@ -1,5 +1,5 @@
-//! What `cosign` stores beside a container image, as checked layers: a payload with its signature, who signed by the
-//! word of a certificate, and what a log promised or proved about the signature.
+//! What `cosign` stores beside a container image, as checked layers: a payload with its signature, the signer that a
+//! certificate names, and what a log promised or proved about the signature.
 //!
 //! ```text
 //! descriptor  {"mediaType":"application/vnd.dev.cosign.simplesigning.v1+json","digest":"sha256:3fbd..",
@@ -12,8 +12,8 @@
 //! payload, image and signature annotation are as they have to be and the claimed promise of a log is signed; and else
 //! the first broken rule is the error. The layers of a manifest are those that are made of each descriptor with the
 //! first layer of its digest, in the order of the descriptors. A layer is signed by a key if and only if the checker
-//! accepts its signature over its raw data. **A layer ties its certificate, what a log promised and its signature
-//! together by nothing**: only [`SignatureLayer::is_signed_by_key`] checks a signature over the layer.
+//! accepts its signature over its raw data. **A layer does not tie its certificate, what a log promised and its
+//! signature together**: only [`SignatureLayer::is_signed_by_key`] checks a signature over the layer.
 #![tactic(auto)]
 
 mod bundle_content;

@@ -22,7 +22,7 @@ use std::alloc::Global;
 pub type Layers = OwnedList<SignatureLayer>;
 
 /// Returns the layers of a manifest's descriptors, in their order, of the image whose manifest has the digest
-/// `source_image_digest`, at `now` in seconds since 1970. To each descriptor belongs the first of the fetched layers
+/// `source_image_digest`, at `now` in seconds since 1970. The layer of a descriptor is the first of the fetched layers
 /// whose bytes have its digest, `sha256:` and lower-case hexadecimal digits; what [`SignatureLayer::new`] makes of both
 /// is in the list, unless it fails. A descriptor without such a layer is left out, and so is one from which no layer is
 /// made, whatever the error: a caller that has to know it calls [`SignatureLayer::new`]. The layers are found by an
@@ -30,7 +30,7 @@ pub type Layers = OwnedList<SignatureLayer>;
 /// copied, for each of them.
 ///
 /// Errors:
-/// - `SigstoreNoVerifiedLayer` if and only if no layer is made, so also if there are no descriptors;
+/// - `SigstoreNoVerifiedLayer` if and only if no layer is made, also if there are no descriptors;
 /// - `OutOfMemory`.
 pub fn build_signature_layers<C: SignatureChecker>(
     alloc: Global,
@@ -42,7 +42,7 @@ pub fn build_signature_layers<C: SignatureChecker>(
     now: i64,
     checker: &C,
 ) -> sig_base::Result<Layers>
-    // The layers are those of the descriptors, and the error says that there are none, unless memory ran out.
+    // The layers are those of the descriptors, and the error says that there are no layers, unless memory ran out.
     ensures found { IfOk result (λ made. IsBuiltOf
         (trust_in (C.spki_accepts checker.now) (C.cert_accepts checker.now) (option_map (λ k. k.now) rekor_pub_keys.entry)
         (option_map (λ p. p.now) fulcio_cert_pool.entry) now)

@@ -137,7 +137,7 @@ fn gather_parts<C: SignatureChecker>(
     }
 }
 
-/// Fails with `SigstoreMediaTypeNotFoundError` unless both media types are that of a payload.
+/// Fails with `SigstoreMediaTypeNotFoundError` unless both media types are those of a payload.
 fn check_types(descriptor: &OciDescriptor, layer: &ImageLayer) -> Result<()>
     ensures { result ≡ typed descriptor.now layer.now }
 {
@@ -181,7 +181,7 @@ struct Noted {
     bundle: Option<BundleContent>,
 }
 
-/// The signature, and what Rekor promised of it.
+/// The signature, and what Rekor promised about it.
 fn read_noted<C: SignatureChecker>(
     alloc: Global,
     descriptor: &OciDescriptor,

@@ -23,13 +23,13 @@
 //! ---
 //! ```
 //!
-//! The bytes are tested, and no clause says them.
+//! The bytes are tested, but not stated by a clause.
 use crate::bundle_content::BundleContent;
 use crate::signature_layer::SignatureLayer;
 use std::fmt;
 
 /// Shows the layer's parts, each under a heading: a bundle only by its kind, the others by their own Display. Texts of
-/// the layer are shown unescaped, so one can look like a part: no program is to read it.
+/// the layer are shown unescaped, so one can look like a part: it is not for programs to read.
 impl fmt::Display for SignatureLayer {
     fn fmt<W: fmt::Write>(&self, f: &mut fmt::Formatter<W>) -> fmt::Result {
         f.write_str("---\n# SignatureLayer\n## digest\n")?;

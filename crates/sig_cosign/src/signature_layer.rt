@@ -15,7 +15,7 @@ use std::alloc::Global;
 /// signature together, and the signature itself is checked only by [`SignatureLayer::is_signed_by_key`].
 #[derive(Drop)]
 pub struct SignatureLayer {
-    /// What is signed of the image.
+    /// What is signed about the image.
     pub simple_signing: SimpleSigning,
     /// The digest of the layer in its registry.
     pub oci_digest: Text,

@@ -23,7 +23,7 @@ pub const MOST_BUNDLES: usize = 256;
 /// The greatest number of bytes of an artifact's name, which has at least one.
 pub const MOST_NAME: usize = 256;
 
-/// An artifact, with what it is to be admitted by.
+/// An artifact, with what decides its admission.
 #[derive(Drop)]
 pub struct Artifact {
     /// Its name in the report: 1 to 256 characters of ASCII from `!` to `~`, if it was read.
@@ -36,7 +36,7 @@ pub struct Artifact {
     pub policy: Text,
     /// The texts of its bundles.
     pub bundles: Entries,
-    /// What those of the bundles that verify have to show.
+    /// What the verified bundles have to show.
     pub rule: Rule,
 }
 

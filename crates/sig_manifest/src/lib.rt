@@ -12,8 +12,8 @@
 //!   ] }
 //! ```
 //!
-//! The layer above uses two facts. A text is read as a manifest if and only if it is one, and each refusal comes exactly
-//! where its cause is the first. And the trusted root and the policy that an artifact of it names are there.
+//! The layer above uses two facts. A text is read as a manifest if and only if it is one, and each error comes exactly
+//! when its cause is the first. And the trusted root and the policy that each of its artifacts names are there.
 #![tactic(auto)]
 
 mod artifact;

@@ -1,4 +1,4 @@
-//! `Manifest`: what artifacts are to be admitted by.
+//! `Manifest`: what decides which artifacts are admitted.
 ghost use Rattle.std.specs.Prelude.{◌≡◌};
 ghost use Rattle.sig_base.specs.Answers.{Answers};
 ghost use Rattle.sig_json.specs.OrMember.{or_member};

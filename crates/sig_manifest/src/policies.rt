@@ -26,8 +26,8 @@ impl ElementReader for PoliciesReader {
     }
 }
 
-/// The policies that the members of an object are. Fails with `Member` if the value is not an object, or a member no
-/// policy.
+/// The policies that the members of an object are. Fails with `Member` if the value is not an object, or a member is
+/// not a policy.
 #[tactic(auto, using(crate::proofs::PolicyMaps::putting))]
 fn policies_of(alloc: Global, json: Json<'_, '_>) -> Result<Policies, MemberError>
     ensures { Answers MemberError.OutOfMemory (λ policies. policies) result

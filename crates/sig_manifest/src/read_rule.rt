@@ -28,9 +28,9 @@ pub enum Form {
     Size,
     /// What each of these rules requires.
     All,
-    /// What one of these rules asks for.
+    /// What at least one of these rules requires.
     Any,
-    /// Not what this rule asks for.
+    /// The opposite of what this rule requires.
     Not,
 }
 
@@ -194,7 +194,7 @@ fn read_rules(alloc: Global, list: Json<'_, '_>, levels: usize) -> Result<Rules,
     Ok(rules)
 }
 
-/// The rule that asks for the opposite. Fails only if out of memory.
+/// Returns the rule that requires the opposite. Fails only if out of memory.
 #[tactic(auto, using(crate::proofs::RuleViews::views))]
 fn negated(alloc: Global, rule: Rule) -> Result<Rule, MemberError>
     ensures { Answers MemberError.OutOfMemory rule_view result (or_member (Some (not_so (rule_view rule)))) }

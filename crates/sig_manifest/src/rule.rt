@@ -1,4 +1,4 @@
-//! `Rule`: what the bundles of an artifact that verify have to show.
+//! `Rule`: what the verified bundles of an artifact have to show.
 ghost use Rattle.std.specs.Prelude.{◌≡◌, ◌++◌, [], ◌∷◌, OnOk};
 ghost use Rattle.sig_manifest.specs.Formula.{rule_view, rules_view};
 
@@ -10,7 +10,7 @@ pub const MOST_LEAST: u64 = 16;
 /// The greatest number of nodes of a rule: itself, and those of the rules in it.
 pub const MOST_NODES: usize = 64;
 
-/// What the bundles of an artifact that verify have to show. Contracts see a `Formula`.
+/// What the verified bundles of an artifact have to show. Contracts see a `Formula`.
 #[derive(Drop)]
 pub enum Rule {
     /// At least this many different log bodies.
@@ -21,9 +21,9 @@ pub enum Rule {
     Size(u64),
     /// What each of these rules requires.
     All(Rules),
-    /// What one of these asks for.
+    /// What at least one of these rules requires.
     Any(Rules),
-    /// Not what this asks for.
+    /// The opposite of what this rule requires.
     Not(Box<Rule>),
 }
 

@@ -25,8 +25,8 @@ kept_by_bit bit value hash = if bit == 0 then value else node_of hash value
 abbrev pub right_fold : List ℕ → List (List ℕ) → ℕ → List ℕ
 right_fold = bit_fold kept_by_bit
 
--- how many hashes of a proof come before the walk: 0 if the m leaves fill one node, whose hash is the old
--- root, else 1, the hash of the last node that they fill
+-- how many hashes of a proof come before the walk: 0 if the m leaves fill one node, whose hash is the old root, else 1,
+-- the hash of the last node that they fill
 unfoldable pub seed_len : ℕ → ℕ
 seed_len m = if m == 2 ^ shift_of m then 0 else 1
 

@@ -57,7 +57,7 @@ fn is_annotated(extra: Json<'_, '_>, name: &str, text: &str) -> bool
     }
 }
 
-/// Whether a value is a text, a number or a truth value that is written so.
+/// Whether a value is this text, or a number or a truth value of this spelling.
 #[tactic(auto, unfolding(crate::specs::Annotations::is_said))]
 fn is_said(value: Json<'_, '_>, text: &str) -> bool
     ensures { result ≡ is_said (tree value.entry) text.now }

@@ -41,7 +41,7 @@ pub struct Bundle {
     pub payload: Payload,
 }
 
-/// A signature over an artifact, with what Rekor promised of it.
+/// A signature over an artifact, with what Rekor promised about it.
 #[derive(Drop, PartialEq, Eq)]
 pub struct SignedArtifactBundle {
     /// The signature, in base64. It is not checked here.
@@ -110,7 +110,7 @@ fn verified_bundle<C: SignatureChecker>(
 }
 
 impl SignedArtifactBundle {
-    /// Reads a signature with what Rekor promised of it, and checks that the log signed the promise, as
+    /// Reads a signature with what Rekor promised about it, and checks that the log signed the promise, as
     /// [`Bundle::new_verified`]. It reads neither the signature nor the certificate.
     ///
     /// Errors, the first that applies:

@@ -1,4 +1,4 @@
-//! What `cosign` signs of a container image, and what Rekor promised of a signature, as `cosign` stores both.
+//! What `cosign` signs about a container image, and what Rekor promised about a signature, as `cosign` stores both.
 //!
 //! A payload (simple signing format, containers/image), and what Rekor promised:
 //!
@@ -12,9 +12,9 @@
 //! ```
 //!
 //! The layer above uses three facts. A text is read as the payload, or as what Rekor promised, that its members are, if
-//! and only if they fit the table of the format. A payload has the annotations that are asked for if and only if each
-//! is a member with that value. What Rekor promised is returned if and only if the log of its id signed it, and else
-//! the first broken rule is the error.
+//! and only if they fit the table of the format. A payload has the required annotations if and only if each is a member
+//! with that value. What Rekor promised is returned if and only if the log of its id signed it, and else the first
+//! broken rule is the error.
 #![tactic(auto)]
 
 mod annotations;

@@ -16,12 +16,12 @@
 //! }
 //! ```
 //!
-//! It takes no memory. The bytes are tested, and no clause says them.
+//! It takes no memory. The bytes are tested, but not stated by a clause.
 use crate::simple_signing::{Optional, SimpleSigning};
 use sig_json::{Json, Members};
 use std::fmt;
 
-/// Shows the payload's JSON, indented by two spaces. Members are in the byte order of their names, and of a name that
+/// Shows the payload's JSON, indented by two spaces. Members are in the byte order of their names, and for a name that
 /// is there twice, as an annotation too, the payload's own member comes first. Annotations that are not an object are
 /// not shown.
 impl fmt::Display for SimpleSigning {

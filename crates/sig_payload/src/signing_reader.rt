@@ -21,7 +21,7 @@ use sig_json::{
 };
 use std::alloc::Global;
 
-/// Reads under which name an image was signed.
+/// Reads the name under which an image was signed.
 enum IdentityReader {}
 
 impl ElementReader for IdentityReader {
@@ -37,7 +37,7 @@ impl ElementReader for IdentityReader {
     }
 }
 
-/// Reads which image was signed.
+/// Reads the image that was signed.
 enum ImageReader {}
 
 impl ElementReader for ImageReader {

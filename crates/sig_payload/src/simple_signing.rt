@@ -1,4 +1,4 @@
-//! `SimpleSigning`: what `cosign` signs of a container image, the payload of the simple signing format.
+//! `SimpleSigning`: what `cosign` signs about a container image, the payload of the simple signing format.
 //!
 //! ```text
 //! {"critical":{"identity":{"docker-reference":"registry.example/image"},
@@ -57,7 +57,7 @@ pub struct Identity {
 pub struct Optional {
     /// What made the signature.
     pub creator: Option<Text>,
-    /// When it was made, in seconds since 1970, by the signer's own word.
+    /// When it was made, in seconds since 1970, as the signer states.
     pub timestamp: Option<i64>,
     /// The annotations of other names, an object.
     pub extra: Document,
@@ -84,7 +84,7 @@ impl SimpleSigning {
         })
     }
 
-    /// Whether the payload is of the image whose manifest has this digest. The texts are compared byte for byte.
+    /// Whether the payload is about the image whose manifest has this digest. The texts are compared byte for byte.
     pub fn satisfies_manifest_digest(&self, expected_digest: &str) -> bool
         ensures { IsTrue result ↔ (self.now.critical.image.docker_manifest_digest ≡ expected_digest.now) }
     {

@@ -1,4 +1,4 @@
-//! Trusted roots of Sigstore: which authorities and logs are trusted, and of what time each is.
+//! Trusted roots of Sigstore: which authorities and logs are trusted, and at what time.
 //!
 //! ```text
 //! {"certificateAuthorities":[{"certChain":{"certificates":[{"rawBytes":"MIIB.."}]},
@@ -8,9 +8,9 @@
 //!  "ctlogs":[]}
 //! ```
 //!
-//! The layer above uses two facts. A text is read as the trusted root that its members are, if and only if they fit
-//! the table of the format. What a trusted root has at a time are the certificates of the authorities that began by
-//! then, and the keys of the logs whose range holds then; of equal log ids the last of these.
+//! The layer above uses two facts. A text is read as the trusted root that its members are, if and only if they fit the
+//! table of the format. A trusted root has at a time the certificates of the authorities that began by then, and the
+//! keys of the logs whose range holds then; for equal log ids the last of these.
 #![tactic(auto)]
 
 mod client_config;

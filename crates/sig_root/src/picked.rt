@@ -8,8 +8,8 @@ use crate::sparse::{SparseAuthority, SparseInstance};
 use sig_base::{Entries, KeyMap, OutOfMemory};
 use std::alloc::Global;
 
-/// Returns all certificates (DER), in order, of the authorities whose range has begun by this second, counted since 1970.
-/// Fails only if out of memory.
+/// Returns all certificates (DER), in order, of the authorities whose range has begun by this second, counted since
+/// 1970. Fails only if out of memory.
 pub fn pick_certificates(
     alloc: Global,
     authorities: &[SparseAuthority],
@@ -64,8 +64,8 @@ fn add_all(list: &mut Entries, certificates: &Entries) -> Result<(), OutOfMemory
     Ok(())
 }
 
-/// Returns the keys whose range holds at this second, counted since 1970, by their log ids in lower-case hexadecimal. Of
-/// equal log ids the last counts. Fails only if out of memory.
+/// Returns the keys whose range holds at this second, counted since 1970, by their log ids in lower-case hexadecimal.
+/// For equal log ids the last counts. Fails only if out of memory.
 pub fn pick_keys(
     alloc: Global,
     instances: &[SparseInstance],

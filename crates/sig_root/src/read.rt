@@ -124,8 +124,8 @@ impl ElementReader for RootReader {
 }
 
 /// Returns the trusted root that a text is (Sigstore trusted root format, in the JSON form of its protocol buffers).
-/// Absent and null members mean empty or absent. Members that are not read here, of whatever kind, are ignored. Nothing
-/// is checked of who made the text. Errors:
+/// Absent and null members mean empty or absent. Members that are not read here, of whatever kind, are ignored. It does
+/// not check who made the text. Errors:
 ///
 /// - `NotJson` if the text has no reading;
 /// - then `Float` if its tree holds a number with a point or an exponent, `-0`, or an integer outside -2^63 to

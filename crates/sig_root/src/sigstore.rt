@@ -34,8 +34,8 @@ impl Model for SigstoreTrustRoot {
 }
 
 impl SigstoreTrustRoot {
-    /// Returns the trusted root that a text is, as `read_trusted_root` reads it. Nothing is checked of who made the
-    /// text. Errors:
+    /// Returns the trusted root that a text is, as `read_trusted_root` reads it. It does not check who made the text.
+    /// Errors:
     ///
     /// - `SerdeJsonError` if and only if the text is not a trusted root, unless memory runs out;
     /// - `OutOfMemory`.
