@@ -170,14 +170,14 @@ put_between name (e ∷ es) (suc place) value between =
 
 -- ---- members as they come
 
-put_behind : (done : List Entry) (e : Entry) (more : List Entry) → InOrder (done ++ e ∷ more)
+put_from_last : (done : List Entry) (e : Entry) (more : List Entry) → InOrder (done ++ e ∷ more)
     → put (cow_str_bytes e.0) (view e.1) (members_view done) ≡ members_view (done ++ e ∷ [])
 unfolding IsStrictlySortedBy
-put_behind [] e more up = refl
-put_behind (first ∷ done) e more up =
+put_from_last [] e more up = refl
+put_from_last (first ∷ done) e more up =
     let below = behind done up.0 in
     rw (turned (cow_str_bytes e.0) (cow_str_bytes first.0) Less below)
-    (ap (member (cow_str_bytes first.0) (view first.1)) (put_behind done e more up.1)) where
+    (ap (member (cow_str_bytes first.0) (view first.1)) (put_from_last done e more up.1)) where
       behind : (done : List Entry)
           → AllByRecursion (λ name. compare (cow_str_bytes first.0) name ≡ Less)
           (keys_of (members_list (members_view (done ++ e ∷ more))))
@@ -190,7 +190,7 @@ each_behind : (done es : List Entry) → InOrder (done ++ es)
 each_behind done [] up = ap members_view (sym (append-nil done))
 each_behind done (e ∷ es) up =
     let moved = append_assoc done (e ∷ []) es in
-    ap (put_each es) (put_behind done e es up) ∙ each_behind (done ++ e ∷ []) es (subst InOrder (sym moved) up)
+    ap (put_each es) (put_from_last done e es up) ∙ each_behind (done ++ e ∷ []) es (subst InOrder (sym moved) up)
     ∙ ap members_view moved
 
 -- members whose names ascend are what they make when they are put one after another

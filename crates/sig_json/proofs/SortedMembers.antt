@@ -146,12 +146,12 @@ key_order_total names =
     then_total (on_total (λ key. key.rank) nat_cmp_total)
     (on_total (λ key. slice_get names key.index) (options_total nat_list_cmp_total))
 
--- the key of a member
+-- the key of a member, whose rank is of its name from a byte on
 abbrev name_at : Entry → List Entry → Key → List ℕ
 name_at d es key = cow_str_bytes (get_or es key.index d).0
 
-abbrev IsKey : List Entry → Key → Type 0
-IsKey es key = (key.index < length es) × ((d : Entry) → key.rank ≡ rank (name_at d es key))
+abbrev IsKey : ℕ → List Entry → Key → Type 0
+IsKey from es key = (key.index < length es) × ((d : Entry) → key.rank ≡ rank (drop from (name_at d es key)))
 
 same_last : (o p : Ordering) → (p ≡ Equal → o ≡ Equal) → is_eq (ordering_then o p) ≡ is_eq p
 same_last Less Less f = refl
@@ -174,24 +174,24 @@ same_turned one other = rw (nat_list_cmp_total.antisymm one other) (reversed (co
   reversed Equal = refl
   reversed Greater = refl
 
-name_found : (d : Entry) (es : List Entry) (key : Key) → IsKey es key
+name_found : (from : ℕ) (d : Entry) (es : List Entry) (key : Key) → IsKey from es key
     → slice_get (entry_names es) key.index ≡ Some (name_at d es key)
-name_found d es key is =
+name_found from d es key is =
     slice_get-map (λ e. cow_str_bytes e.0) es key.index
     ∙ ap (option_map (λ e. cow_str_bytes e.0)) (slice_get-get_or es key.index d is.0)
 
 -- two keys tie where their members have the same name
-tied : (d : Entry) (es : List Entry) (one other : Key) → IsKey es one → IsKey es other
+tied : (from : ℕ) (d : Entry) (es : List Entry) (one other : Key) → IsKey from es one → IsKey from es other
     → ties (comes_first (entry_names es)) one other ≡ has (name_at d es one) (get_or es other.index d)
 unfolding key_order
-tied d es one other is are =
+tied from d es one other is are =
     tie_from _ _ ((key_order_total (entry_names es)).antisymm other one)
     ∙ ap (λ (o : Ordering). is_eq (ordering_then o by_names))
-    (ap (λ (r : ℕ). nat_cmp r other.rank) (is.1 d) ∙ ap (λ (r : ℕ). nat_cmp (rank (name_at d es one)) r) (are.1 d))
+    (ap (λ (r : ℕ). nat_cmp r other.rank) (is.1 d) ∙ ap (λ (r : ℕ). nat_cmp (rank (drop from (name_at d es one))) r) (are.1 d))
     ∙ ap (λ (p : Ordering). is_eq (ordering_then ranks p))
     (ap (λ (name : Option (List ℕ)). option_cmp compare name (slice_get (entry_names es) other.index))
-    (name_found d es one is)
-    ∙ ap (λ (name : Option (List ℕ)). option_cmp compare (Some (name_at d es one)) name) (name_found d es other are))
+    (name_found from d es one is)
+    ∙ ap (λ (name : Option (List ℕ)). option_cmp compare (Some (name_at d es one)) name) (name_found from d es other are))
     ∙ same_last ranks (compare (name_at d es one) (name_at d es other)) alike
     ∙ same_turned (name_at d es one) (name_at d es other) where
       by_names : Ordering
@@ -199,26 +199,26 @@ tied d es one other is are =
           option_cmp compare (slice_get (entry_names es) one.index) (slice_get (entry_names es) other.index)
 
       ranks : Ordering
-      ranks = nat_cmp (rank (name_at d es one)) (rank (name_at d es other))
+      ranks = nat_cmp (rank (drop from (name_at d es one))) (rank (drop from (name_at d es other)))
 
       alike : compare (name_at d es one) (name_at d es other) ≡ Equal → ranks ≡ Equal
       alike tie =
-          ap (λ (name : List ℕ). nat_cmp (rank name) (rank (name_at d es other))) (same_from_tie _ _ tie)
-          ∙ tied_itself nat_cmp_total (rank (name_at d es other))
+          ap (λ (name : List ℕ). nat_cmp (rank (drop from name)) (rank (drop from (name_at d es other)))) (same_from_tie _ _ tie)
+          ∙ tied_itself nat_cmp_total (rank (drop from (name_at d es other)))
 
 -- ---- members by their keys
 
-abbrev AreKeys : List Entry → List Key → Type 0
-AreKeys es keys = AllByRecursion (IsKey es) keys
+abbrev AreKeys : ℕ → List Entry → List Key → Type 0
+AreKeys from es keys = AllByRecursion (IsKey from es) keys
 
 -- the members of a name are those of the keys that tie with its key
-of_name : (d : Entry) (es : List Entry) (one : Key) (keys : List Key) → IsKey es one → AreKeys es keys
+of_name : (from : ℕ) (d : Entry) (es : List Entry) (one : Key) (keys : List Key) → IsKey from es one → AreKeys from es keys
     → filter (has (name_at d es one)) (entries_at d es keys)
     ≡ entries_at d es (filter (ties (comes_first (entry_names es)) one) keys)
-of_name d es one [] is are = refl
-of_name d es one (key ∷ keys) is are =
-    let rest = of_name d es one keys is are.1 in
-    let same = tied d es one key is are.0 in
+of_name from d es one [] is are = refl
+of_name from d es one (key ∷ keys) is are =
+    let rest = of_name from d es one keys is are.1 in
+    let same = tied from d es one key is are.0 in
     elim (has (name_at d es one) (get_or es key.index d)) as
     (λ b. has (name_at d es one) (get_or es key.index d) ≡ b
     → filter (has (name_at d es one)) (entries_at d es (key ∷ keys))
@@ -228,36 +228,36 @@ of_name d es one (key ∷ keys) is are =
     ] refl
 
 -- some key is of a member of this name, or none
-any_of : (d : Entry) (es : List Entry) (name : List ℕ) (keys : List Key) → AreKeys es keys
-    → ((key : Key) × IsKey es key × (name_at d es key ≡ name)) ⊎ (filter (has name) (entries_at d es keys) ≡ [])
-any_of d es name [] are = inr refl
-any_of d es name (key ∷ keys) are =
+any_of : (from : ℕ) (d : Entry) (es : List Entry) (name : List ℕ) (keys : List Key) → AreKeys from es keys
+    → ((key : Key) × IsKey from es key × (name_at d es key ≡ name)) ⊎ (filter (has name) (entries_at d es keys) ≡ [])
+any_of from d es name [] are = inr refl
+any_of from d es name (key ∷ keys) are =
     elim (compare (name_at d es key) name) as
     (λ o. compare (name_at d es key) name ≡ o
-    → ((key : Key) × IsKey es key × (name_at d es key ≡ name))
+    → ((key : Key) × IsKey from es key × (name_at d es key ≡ name))
     ⊎ (filter (has name) (entries_at d es (key ∷ keys)) ≡ [])) [
-      | Less ↦ λ is. rw is (any_of d es name keys are.1)
+      | Less ↦ λ is. rw is (any_of from d es name keys are.1)
       | Equal ↦ λ is. inl (key, are.0, same_from_tie _ name is)
-      | Greater ↦ λ is. rw is (any_of d es name keys are.1)
+      | Greater ↦ λ is. rw is (any_of from d es name keys are.1)
     ] refl
 
-stays : (d : Entry) (es : List Entry) (keys others : List Key) → AreKeys es keys → AreKeys es others
+stays : (from : ℕ) (d : Entry) (es : List Entry) (keys others : List Key) → AreKeys from es keys → AreKeys from es others
     → IsStableBy (comes_first (entry_names es)) keys others → (name : List ℕ)
     → filter (has name) (entries_at d es others) ≡ filter (has name) (entries_at d es keys)
-stays d es keys others are were stable name =
-    elim (any_of d es name others were) [
+stays from d es keys others are were stable name =
+    elim (any_of from d es name others were) [
       | inl found ↦ by_key found
-      | inr none ↦ elim (any_of d es name keys are) [
+      | inr none ↦ elim (any_of from d es name keys are) [
         | inl found ↦ by_key found
         | inr nor ↦ none ∙ sym nor
       ]
     ] where
-      by_key : ((key : Key) × IsKey es key × (name_at d es key ≡ name))
+      by_key : ((key : Key) × IsKey from es key × (name_at d es key ≡ name))
           → filter (has name) (entries_at d es others) ≡ filter (has name) (entries_at d es keys)
       by_key found =
           subst (λ name. filter (has name) (entries_at d es others) ≡ filter (has name) (entries_at d es keys)) found.2
-          (of_name d es found.0 others found.1 were ∙ ap (entries_at d es) (stable found.0)
-          ∙ sym (of_name d es found.0 keys found.1 are))
+          (of_name from d es found.0 others found.1 were ∙ ap (entries_at d es) (stable found.0)
+          ∙ sym (of_name from d es found.0 keys found.1 are))
 
 -- ---- a sort by rank before the sort by name
 
@@ -304,33 +304,33 @@ here : (done : List Entry) (e : Entry) (rest : List Entry) (d : Entry) → get_o
 here [] e rest d = refl
 here (x ∷ done) e rest d = here done e rest d
 
-are_ranked : (es done rest : List Entry) (n : ℕ) → es ≡ done ++ rest → n ≡ length done
-    → AreKeys es (ranked n (entry_names rest))
-are_ranked es done [] n is at = tt
-are_ranked es done (e ∷ rest) n is at = (
+are_ranked : (from : ℕ) (es done rest : List Entry) (n : ℕ) → es ≡ done ++ rest → n ≡ length done
+    → AreKeys from es (ranked from n (entry_names rest))
+are_ranked from es done [] n is at = tt
+are_ranked from es done (e ∷ rest) n is at = (
   (
     omega (arith, ap length is, length-append done (e ∷ rest), at),
     λ d. let found : get_or es n d ≡ e = rw (is, at) (here done e rest d) in
-        ap (λ (e : Entry). rank (cow_str_bytes e.0)) (sym found),
+        ap (λ (e : Entry). rank (drop from (cow_str_bytes e.0))) (sym found),
   ),
-  are_ranked es (done ++ e ∷ []) rest (suc n) (is ∙ sym (append_assoc done (e ∷ []) rest))
+  are_ranked from es (done ++ e ∷ []) rest (suc n) (is ∙ sym (append_assoc done (e ∷ []) rest))
       (omega (arith, length-append done (e ∷ []), at)),
 )
 
-entries_ranked : (d : Entry) (es done rest : List Entry) (n : ℕ) → es ≡ done ++ rest → n ≡ length done
-    → entries_at d es (ranked n (entry_names rest)) ≡ rest
-entries_ranked d es done [] n is at = refl
-entries_ranked d es done (e ∷ rest) n is at =
+entries_ranked : (from : ℕ) (d : Entry) (es done rest : List Entry) (n : ℕ) → es ≡ done ++ rest → n ≡ length done
+    → entries_at d es (ranked from n (entry_names rest)) ≡ rest
+entries_ranked from d es done [] n is at = refl
+entries_ranked from d es done (e ∷ rest) n is at =
     let found : get_or es n d ≡ e = rw (is, at) (here done e rest d) in
-    ap (λ (first : Entry). first ∷ entries_at d es (ranked (suc n) (entry_names rest))) found
-    ∙ ap (λ (more : List Entry). e ∷ more) (entries_ranked d es (done ++ e ∷ []) rest (suc n) (is ∙ sym (append_assoc done (e ∷ []) rest))
+    ap (λ (first : Entry). first ∷ entries_at d es (ranked from (suc n) (entry_names rest))) found
+    ∙ ap (λ (more : List Entry). e ∷ more) (entries_ranked from d es (done ++ e ∷ []) rest (suc n) (is ∙ sym (append_assoc done (e ∷ []) rest))
     (omega (arith, length-append done (e ∷ []), at)))
 
-index_ranked : (names : List (List ℕ)) (n i : ℕ) (key : Key) → i < length (ranked n names)
-    → (get_or (ranked n names) i key).index ≡ n + i
-index_ranked [] n i key within = absurd (omega arith)
-index_ranked (name ∷ names) n zero key within = omega arith
-index_ranked (name ∷ names) n (suc i) key within = index_ranked names (suc n) i key (omega arith) ∙ omega arith
+index_ranked : (from : ℕ) (names : List (List ℕ)) (n i : ℕ) (key : Key) → i < length (ranked from n names)
+    → (get_or (ranked from n names) i key).index ≡ n + i
+index_ranked from [] n i key within = absurd (omega arith)
+index_ranked from (name ∷ names) n zero key within = omega arith
+index_ranked from (name ∷ names) n (suc i) key within = index_ranked from names (suc n) i key (omega arith) ∙ omega arith
 
 -- ---- no two of the same member
 
@@ -388,28 +388,28 @@ differ_swapped keys a b first second differ i j key within also same =
     (ap (λ k. k.index) (sym (was_at keys a b i x.0 key first second x.1)) ∙ same
     ∙ ap (λ k. k.index) (was_at keys a b j y.0 key first second y.1)))
 
-differ_ranked : (names : List (List ℕ)) → Differ (ranked 0 names)
-differ_ranked names i j key within also same =
-    omega (arith, index_ranked names 0 i key within, same, index_ranked names 0 j key also)
+differ_ranked : (from : ℕ) (names : List (List ℕ)) → Differ (ranked from 0 names)
+differ_ranked from names i j key within also same =
+    omega (arith, index_ranked from names 0 i key within, same, index_ranked from names 0 j key also)
 
 -- ---- what the sort makes of the keys
 
-module _ (es : List Entry) (keys : List Key) (moved : IsPermutation (ranked 0 (entry_names es)) keys)
-    (stable : IsStableBy (comes_first (entry_names es)) (ranked 0 (entry_names es)) keys) where
-  first_keys : AreKeys es (ranked 0 (entry_names es))
-  first_keys = are_ranked es [] es 0 refl refl
+module _ (from : ℕ) (es : List Entry) (keys : List Key) (moved : IsPermutation (ranked from 0 (entry_names es)) keys)
+    (stable : IsStableBy (comes_first (entry_names es)) (ranked from 0 (entry_names es)) keys) where
+  first_keys : AreKeys from es (ranked from 0 (entry_names es))
+  first_keys = are_ranked from es [] es 0 refl refl
 
-  are_keys : All (IsKey es) keys
-  are_keys = All-permutation (IsKey es) _ keys moved (All-from_recursion (IsKey es) _ first_keys)
+  are_keys : All (IsKey from es) keys
+  are_keys = All-permutation (IsKey from es) _ keys moved (All-from_recursion (IsKey from es) _ first_keys)
 
   pub order_is : IsOrderOf es keys
   order_is = record {
     within = λ i key inside. (are_keys i key inside).0;
-    apart = IsPermutation-keeps _ Differ (differ_ranked (entry_names es)) differ_swapped keys moved;
+    apart = IsPermutation-keeps _ Differ (differ_ranked from (entry_names es)) differ_swapped keys moved;
     same =
         λ d. same_gathered es (entries_at d es keys) (λ name.
-        stays d es (ranked 0 (entry_names es)) keys first_keys (recursion_from_All (IsKey es) keys are_keys)
-        stable name ∙ ap (filter (has name)) (entries_ranked d es [] es 0 refl refl));
+        stays from d es (ranked from 0 (entry_names es)) keys first_keys (recursion_from_All (IsKey from es) keys are_keys)
+        stable name ∙ ap (filter (has name)) (entries_ranked from d es [] es 0 refl refl));
   }
 
 -- ---- one key more

@@ -1,5 +1,5 @@
 -- For private clauses: the members of an object in the order of their names, by a sort of their indices.
-use Rattle.std.specs.Prelude.{◌≡◌, ◌<◌, ◌+◌, ◌*◌, ℕ, suc, List, [], ◌∷◌, length, map, slice_get}
+use Rattle.std.specs.Prelude.{◌≡◌, ◌<◌, ◌+◌, ◌*◌, ℕ, suc, List, [], ◌∷◌, drop, length, map, slice_get}
 use Rattle.std.specs.Prelude.{slice_index_or, Bool, Option, None, Some}
 use Rattle.std.specs.Cow.{cow_str_bytes}
 use Rattle.std.specs.Cmp.Lexicographic.{slice_cmp}
@@ -24,10 +24,11 @@ rank name =
     let five = (three * 257 + rank_digit name 3) * 257 + rank_digit name 4 in
     (five * 257 + rank_digit name 5) * 257 + rank_digit name 6
 
--- the key of each name, whose indices count on from a first one
-abbrev pub ranked : ℕ → List (List ℕ) → List Key
-ranked index [] = []
-ranked index (name ∷ names) = (record { rank = rank name; index = index }) ∷ ranked (suc index) names
+-- the key of each name, whose rank is of its bytes from one on, and whose indices count on from a first one
+abbrev pub ranked : (from index : ℕ) → List (List ℕ) → List Key
+ranked from index [] = []
+ranked from index (name ∷ names) =
+    (record { rank = rank (drop from name); index = index }) ∷ ranked from (suc index) names
 
 abbrev pub entry_names : List Entry → List (List ℕ)
 entry_names = map (λ e. cow_str_bytes e.0)

@@ -60,6 +60,7 @@ mod object;
 mod order;
 mod owned;
 mod part;
+mod rank;
 mod read;
 mod record;
 mod room;

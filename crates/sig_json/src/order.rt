@@ -76,7 +76,7 @@ fn search(members: &Vec<Entry<'_>>, name: &str) -> Result<usize, usize>
 
 /// The same where the name is mostly the last one, or goes after it.
 #[tactic(auto, using(crate::proofs::OrderedMembers::placed))]
-pub(crate) fn put_behind<'t>(
+pub(crate) fn put_from_last<'t>(
     members: &mut Vec<Entry<'t>>,
     name: Words<'t>,
     value: Tree<'t>,

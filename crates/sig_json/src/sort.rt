@@ -1,24 +1,22 @@
 //! Many members in the byte order of their names, by a sort of their indices.
-ghost use Rattle.std.specs.Prelude.{◌≡◌, ◌≤◌, IfOk, OnOk, slice_get};
+ghost use Rattle.std.specs.Prelude.{◌≡◌, IfOk, OnOk, slice_get};
 ghost use Rattle.std.specs.Cmp.Lexicographic.{slice_cmp};
 ghost use Rattle.std.specs.List.Sorted.{IsPermutation, IsStableBy, IsStableByKey};
 ghost use Rattle.std.specs.Option.{option_cmp};
 ghost use Rattle.std.specs.Ordering.{nat_cmp};
 ghost use Rattle.sig_json.specs.Gathered.{gathered};
 ghost use Rattle.sig_json.specs.Only.{names_of};
-ghost use Rattle.sig_json.specs.Sorting.{rank_digit, rank, ranked, entry_names, key_order, comes_first, IsOrderOf};
+ghost use Rattle.sig_json.specs.Sorting.{ranked, entry_names, key_order, comes_first, IsOrderOf};
 ghost use Rattle.sig_json.specs.View.{members_view};
 
-use crate::order::put_behind;
+use crate::order::put_from_last;
+use crate::rank::{rank_from, shared};
 use crate::tree::{Entry, Tree};
 use crate::words::borrow;
 use sig_base::OutOfMemory;
 use std::alloc::Global;
 use std::cmp::Ordering;
 use std::mem;
-
-/// One more than the bytes that there are, since an absent one counts too.
-const RADIX: u64 = 257;
 
 /// The index of a member, and the rank of its name, which tells most names apart without a look at the member.
 #[derive(Drop)]
@@ -38,7 +36,7 @@ pub(crate) fn sorted<'t>(
     let mut ordered = Vec::new(alloc);
     'keys: for key in order.as_slice() {
         let (name, value) = mem::replace(&mut members[key.index], (borrow(""), Tree::Null));
-        put_behind(&mut ordered, name, value)?;
+        put_from_last(&mut ordered, name, value)?;
     }
     Ok(ordered)
 }
@@ -48,7 +46,8 @@ fn order_of(alloc: Global, members: &[Entry<'_>]) -> Result<Vec<Key>, OutOfMemor
     ensures { IfOk result (λ keys. IsOrderOf members.now keys.items) }
 {
     let names = names_of(alloc, members)?;
-    let mut keys = keys_of(alloc, names.as_slice())?;
+    let from = shared(names.as_slice());
+    let mut keys = keys_of(alloc, names.as_slice(), from)?;
     put_in_order(names.as_slice(), &mut keys)?;
     Ok(keys)
 }
@@ -63,44 +62,19 @@ fn names_of<'a>(alloc: Global, members: &'a [Entry<'_>]) -> Result<Vec<&'a str>,
     Ok(names)
 }
 
-/// The key of each name, in the order of the names.
-fn keys_of(alloc: Global, names: &[&str]) -> Result<Vec<Key>, OutOfMemory>
-    ensures { IfOk result (λ keys. keys.items ≡ ranked 0 (names_of names.now)) }
+/// The key of each name, in the order of the names, with the rank of its bytes from this one on.
+fn keys_of(alloc: Global, names: &[&str], from: usize) -> Result<Vec<Key>, OutOfMemory>
+    ensures { IfOk result (λ keys. keys.items ≡ ranked from 0 (names_of names.now)) }
 {
     let mut keys = Vec::with_capacity(alloc, names.len())?;
     'names: for name in names {
         let index = keys.len();
         keys.push(Key {
-            rank: rank(name),
+            rank: rank_from(name, from),
             index,
         })?;
     }
     Ok(keys)
-}
-
-/// The first seven bytes of a name as a number. Where two names differ in these, the lower one has the lower rank.
-#[tactic(auto, unfolding(crate::specs::Sorting::rank))]
-#[inline(always)]
-fn rank(name: &str) -> u64
-    ensures { result ≡ rank name.now }
-{
-    let bytes = name.as_bytes();
-    let three = (rank_digit(bytes, 0) * RADIX + rank_digit(bytes, 1)) * RADIX
-        + rank_digit(bytes, 2);
-    let five = (three * RADIX + rank_digit(bytes, 3)) * RADIX + rank_digit(bytes, 4);
-    (five * RADIX + rank_digit(bytes, 5)) * RADIX + rank_digit(bytes, 6)
-}
-
-/// A byte of a name as a digit of its rank: an absent byte is below all others.
-#[inline(always)]
-fn rank_digit(name: &[u8], index: usize) -> u64
-    ensures digit { result ≡ rank_digit name.now index }
-    ensures bound { result ≤ 256 }
-{
-    match name.get(index) {
-        Some(byte) => *byte as u64 + 1,
-        None => 0,
-    }
 }
 
 /// Puts keys in the order of their names; keys of the same name stay in their order. The ranks alone leave little to

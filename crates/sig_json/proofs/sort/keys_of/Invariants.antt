@@ -6,4 +6,4 @@ use Rattle.sig_json.proofs.sort.keys_of.Given as goal
 
 abbrev pub invariant-names : goal.invariant-names
 invariant-names l =
-    l.keys.items ++ ranked (length l.keys.items) (names_of (drop l.name-index l.names)) ≡ ranked 0 (names_of l.names)
+    l.keys.items ++ ranked l.from (length l.keys.items) (names_of (drop l.name-index l.names)) ≡ ranked l.from 0 (names_of l.names)

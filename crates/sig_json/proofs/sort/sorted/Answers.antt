@@ -28,9 +28,9 @@ keys-preserved c =
     ∙ get_or_default c.keys.members.items _ _ d (omega (arith, there, before.2))
     ∙ before.3 c.keys.key-index key d (omega arith) c.keys-test.true in (
       λ d. next_left c.args.members.items c.keys.members.items items c.keys.key-index key c.keys-test.true d
-          c.replace-name.result c.keys.ordered.items c.put_behind.new.members.items (value d)
-          c.in_ok-put_behind.ensures.ok (before.0 d),
-      in_order-put c.keys.ordered.items c.put_behind.new.members.items _ _ before.1 c.in_ok-put_behind.ensures.ok,
+          c.replace-name.result c.keys.ordered.items c.put_from_last.new.members.items (value d)
+          c.in_ok-put_from_last.ensures.ok (before.0 d),
+      in_order-put c.keys.ordered.items c.put_from_last.new.members.items _ _ before.1 c.in_ok-put_from_last.ensures.ok,
       length-set c.keys.members.items _ _ ∙ before.2,
       λ i other d from within. next_kept c.args.members.items c.keys.members.items items c.keys.key-index key
           c.keys-test.true order c.replace-name.new.dest i other d from within
