@@ -22,9 +22,9 @@ use std::alloc::Global;
 /// that of the head before it as its first leaves; the hashes of the first head are not checked. The hashes of each
 /// watch have to lead from its entry to the root of its head.
 ///
-/// Errors, the first that applies, of the heads in order and then of the watches in order; each keeps an index:
+/// Errors, the first that applies, for the heads in order and then for the watches in order; each keeps an index:
 /// - `Empty`: there is no head;
-/// - `NoteKey`: the checker accepts none of the head's signatures under the key;
+/// - `NoteKey`: the checker does not accept any of the head's signatures under the key;
 /// - `Origin`: the head's origin is not that of the first head;
 /// - `Consistency`: the head's hashes are not a consistency proof from the head before it, with the error of
 ///   [`sig_merkle::verify_consistency`];

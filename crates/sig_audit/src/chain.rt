@@ -10,7 +10,7 @@ pub struct ChainHead {
     /// The root hash of the tree (RFC 6962 section 2.1).
     pub hash: [u8; 32],
     /// The consistency proof from the head before this one (RFC 6962 section 2.1.2). That of the first head is not
-    /// looked at.
+    /// checked.
     pub hashes: Hashes,
 }
 

@@ -2,7 +2,7 @@
 use sig_base::{MerkleProofError, OutOfMemory};
 use thiserror::Error;
 
-/// Why an audit fails: the first fault, of the heads in order and then of the watches in order. A number is the index
+/// Why an audit fails: the first fault of the heads in order and then of the watches in order. A number is the index
 /// of the head or of the watch.
 #[derive(Clone, Copy, Debug, PartialEq, Eq, Error)]
 pub enum AuditError {
@@ -12,7 +12,7 @@ pub enum AuditError {
     /// No signature of the head is the log's.
     #[error("NoteKey")]
     NoteKey(usize),
-    /// The head has another origin than the first one.
+    /// The head's origin is not that of the first head.
     #[error("Origin")]
     Origin(usize),
     /// The head's hashes do not show that its tree has that of the head before it as its first leaves.

@@ -93,7 +93,7 @@ pub(crate) fn collision_beside(
     Ok(None)
 }
 
-/// The same of a head, of which this is the root of the list's first entries, by the proof of the head after it, which
+/// The same for a head, where this is the root of the list's first entries, by the proof of the head after it, which
 /// is of the list's first entries.
 fn pair_collision(
     alloc: Global,

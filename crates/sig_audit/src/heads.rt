@@ -9,7 +9,7 @@ pub struct AuditHead {
     /// What the log said of its tree, and the signatures over it.
     pub checkpoint: SignedCheckpoint,
     /// The consistency proof from the head before this one (RFC 6962 section 2.1.2). That of the first head is not
-    /// looked at.
+    /// checked.
     pub hashes: Hashes,
 }
 

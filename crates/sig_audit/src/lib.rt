@@ -4,7 +4,7 @@
 //! The layer above uses three facts. [`audit`] is Ok if and only if `IsAudited` holds, and else fails with the first
 //! part of it that does not. [`chain_collision`] returns `None` if and only if each head's hash is the root of the
 //! list's first entries, and else two byte strings of equal SHA-256. [`audit_collision`] does the same for the heads
-//! and of the watched entries, and [`compare_list`] for any list: whether it is the last head's at all.
+//! and for the watched entries, and [`compare_list`] for any list: whether it is the last head's at all.
 //!
 //! The hashes of a head are the consistency proof from the head before it (RFC 6962 section 2.1.2), those of a watch
 //! the audit path of its entry under its head (section 2.1.1).

@@ -12,11 +12,11 @@ use sig_request::AuditRequest;
 use std::alloc::Global;
 
 /// Returns the reply to a request's text: `audited K W N`, the number of heads, that of watched entries and the size of
-/// the last head, with status 0 if every link holds, and the second line where the request gives the log's entries.
-/// Else, with status 1, the first link that fails and the index of its head or watched entry: `refused checkpoint I` of
-/// the heads in order, then `refused note-key I`, `refused origin I` or `refused consistency I` of each head in turn,
-/// then `refused inclusion I` of the watched entries in order; and `refused request` with status 2 if the text is not a
-/// request of `audit`. Fails only if out of memory.
+/// the last head, with status 0 if every link holds, and the second line if the request gives the log's entries.
+/// Else, with status 1, the first link that fails and the index of its head or watched entry: `refused checkpoint I`
+/// for the heads in order, then `refused note-key I`, `refused origin I` or `refused consistency I` for each head in
+/// turn, then `refused inclusion I` for the watched entries in order; and `refused request` with status 2 if the text
+/// is not a request of `audit`. Fails only if out of memory.
 ///
 /// So each head of an audited log has the size and the root of the first entries of the list that the last one has, and
 /// each watched entry is that list's at its index; or two different byte strings of equal SHA-256 are written.

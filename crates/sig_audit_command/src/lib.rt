@@ -5,7 +5,7 @@
 //! prefixes 2
 //! ```
 //!
-//! The layer above uses three facts. [`audit_reply`] makes the reply that is defined: the success line if and only if
+//! The layer above uses three facts. [`audit_reply`] makes the reply of the definition: the success line if and only if
 //! every link holds, else the first link that fails. [`audit_questions`] lists the signatures that it can depend on.
 //! And nothing but these matters.
 #![tactic(auto)]

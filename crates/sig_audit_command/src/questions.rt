@@ -15,7 +15,7 @@ use sig_reply::{Reply, room_beside};
 use sig_request::AuditRequest;
 use std::alloc::Global;
 
-/// Returns the reply to a request's text: the list of the signatures that `audit` asks for, of each head in order each
+/// Returns the reply to a request's text: the list of the signatures that `audit` asks for, for each head in order each
 /// signature over its note under the log's scheme and key, with status 0; else `refused checkpoint I` for the first
 /// head whose text is not a checkpoint, and `refused request` if the text is not a request of `audit`, or text, list
 /// and `,"accepted":` would have more than 2^24 bytes together. Which signatures the request itself accepts does not

@@ -11,7 +11,7 @@ use std::alloc::Global;
 /// Why there are no heads.
 #[derive(Clone, Copy)]
 pub enum NoHeads {
-    /// The text of the head at this index is not a checkpoint, and it is the first such.
+    /// The text of the head at this index is not a checkpoint, and it is the first such head.
     Checkpoint(usize),
     /// Out of memory.
     OutOfMemory,

@@ -17,7 +17,7 @@ use sig_json::{Document, Object};
 use sig_shown::{Shown, first, with_count, with_list, with_sha256, with_shown};
 use std::alloc::Global;
 
-/// How many heads, and how many watched entries, are shown at most.
+/// The greatest number of heads, and of watched entries, that are shown.
 pub const MOST_SHOWN: usize = 256;
 
 /// Shows heads: what each says of its tree.
@@ -50,8 +50,8 @@ impl Shown for ShownWatch {
     }
 }
 
-/// What is shown of an audited log: the `origin` of its heads; `headCount` and `watchedCount`, how many heads and watched
-/// entries there are; and the first [`MOST_SHOWN`] of each. Fails only if out of memory.
+/// What is shown of an audited log: the `origin` of its heads; `headCount` and `watchedCount`, how many heads and
+/// watched entries there are; and the first [`MOST_SHOWN`] of each. Fails only if out of memory.
 #[tactic(auto, unfolding(crate::specs::Audited::audited_tree))]
 pub(crate) fn audited_document(
     alloc: Global,

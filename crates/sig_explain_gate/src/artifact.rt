@@ -25,7 +25,7 @@ use std::alloc::Global;
 #[derive(Drop)]
 pub(crate) struct ArtifactFinding {
     pub(crate) verdict: Verdict,
-    /// The object of `admitted`, `yes` or `no`; of `bundles`, what is shown of each; and of `name`.
+    /// The object with `admitted`, `yes` or `no`; `bundles`, what is shown of each; and `name`.
     pub(crate) document: Document,
 }
 

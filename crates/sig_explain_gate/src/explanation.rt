@@ -28,7 +28,7 @@ pub struct ExplainedGate {
     pub document: Document,
 }
 
-/// Returns the reply of `gate` to a request's text, and what `explain gate` shows of it. For a manifest that is an
+/// Returns the reply of `gate` to a request's text, and what `explain gate` shows of it. For a manifest, this is an
 /// object of one member, `artifacts`: for each artifact in order its `name`, whether it is `admitted`, `yes` or `no`,
 /// and `bundles`, for each of its bundles in order the object of what was verified, or of why it is refused, as
 /// `explain verify` shows it under the artifact's trusted root and policy. For a text that is not a manifest it is the

@@ -1,4 +1,4 @@
-//! A note that the log did not sign: what the accepted signatures have of it.
+//! A note that the log did not sign: what the accepted signatures share with it.
 //!
 //! ```text
 //! {"accepted":["key"],"cause":["CheckpointSignatureVerificationError"],"keySha256":"..","messageSha256":"..",
@@ -21,7 +21,7 @@ use std::alloc::Global;
 
 /// The object with what a note lacks that the log did not sign: `cause`, a list of
 /// `CheckpointSignatureVerificationError`; and `scheme`, `keySha256`, `messageSha256` and `accepted` as by
-/// [`with_accepted_note`]. Of a text that is not a checkpoint the object stays as it is. Fails only if out of memory.
+/// [`with_accepted_note`]. The object stays as it is for a text that is not a checkpoint. Fails only if out of memory.
 pub fn with_unsigned(
     object: Object,
     alloc: Global,
@@ -39,7 +39,7 @@ pub fn with_unsigned(
     }
 }
 
-/// The object with what the accepted signatures have of a checkpoint that is read.
+/// The object with what the accepted signatures share with a checkpoint that is read.
 fn with_note_key(
     object: Object,
     alloc: Global,

@@ -32,7 +32,7 @@ use std::alloc::Global;
 /// - `note-key`: as [`with_unsigned`](crate::with_unsigned);
 /// - `note-match`: `cause`, a list of `ConsistencyProofError` and the name of the error, and what the error keeps;
 ///   `proof`, its `logIndex`, `treeSize` and `rootHash`; and `note`, its `origin`, `treeSize` and `rootHash`;
-/// - `inclusion`: likewise, with `InclusionProofError`. That of a negative index is `IndexGtTreeSize`.
+/// - `inclusion`: likewise, with `InclusionProofError`. A negative index gives `IndexGtTreeSize`.
 ///
 /// If every link holds, it is what was verified: `entrySha256`, `note` and `proof`. Fails only if out of memory.
 #[tactic(auto, unfolding(crate::specs::Log::log_tree))]

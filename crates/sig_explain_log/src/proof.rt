@@ -44,7 +44,7 @@ pub fn with_inclusion_error(
     with_merkle(object, alloc, error)
 }
 
-/// The same as [`with_consistency_error`], of the answer of a check. If the check succeeds, the object stays as it is.
+/// The same as [`with_consistency_error`], for the result of a check. If the check succeeds, the object stays as it is.
 /// Fails only if out of memory.
 pub fn with_consistency(
     object: Object,
@@ -59,7 +59,7 @@ pub fn with_consistency(
     }
 }
 
-/// The same as [`with_inclusion_error`], of the answer of a check. If the check succeeds, the object stays as it is.
+/// The same as [`with_inclusion_error`], for the result of a check. If the check succeeds, the object stays as it is.
 /// Fails only if out of memory.
 pub fn with_inclusion(
     object: Object,
