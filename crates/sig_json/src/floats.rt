@@ -34,7 +34,7 @@ fn is_float_among(items: &Vec<Tree<'_>>) -> bool
 
 #[cycle(floats)]
 #[tactic(auto, using(crate::proofs::Lists::parts))]
-pub(crate) fn is_float_in_members(members: &Vec<Entry<'_>>) -> bool
+fn is_float_in_members(members: &Vec<Entry<'_>>) -> bool
     ensures { result ≡ members_have_float (members_view members.now.items) }
 {
     for member in members {

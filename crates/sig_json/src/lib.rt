@@ -22,8 +22,8 @@
 //! - A `BorrowedDocument` is the same tree for a caller that drops it before the text: its names and texts are borrowed.
 //!   Records are read from such trees.
 //! - A document that is read for the members of some names is the whole one without the others, and fails as the whole
-//!   one does. No tree is made of the others, unless they hold a float. A list beside them is read element by element,
-//!   and no tree is made of the list.
+//!   one does. No tree is made of the others. A list beside them is read element by element, and no tree is made of the
+//!   list. The text is gone through once.
 //! - `Json`, a view, shows what the tree is; the members of an object come in the byte order of their names. What
 //!   writes the whole tree takes it as a `Tree`, level by level.
 //! - A reader returns what the member means by its row of a table, and fails with `Member` if and only if the member
