@@ -73,7 +73,7 @@ def check_table(results, _):
     results.compare("parts of certificates", sorted(explain_table.PARTS), sorted(names["part"]))
     why = names_in(text_of("sig_evidence", "specs", "Fault.antt"))["why"]
     results.compare("why a member is refused", sorted(explain_table.WHY), sorted(why))
-    rules = names_in(text_of("sig_evidence", "specs", "Rules.antt"))["rule"]
+    rules = names_in(text_of("sig_explanation", "specs", "Rules.antt"))["rule"]
     results.compare("rules", sorted(explain_table.RULES), sorted(rules))
     asked = text_of("sig_policy", "specs", "Requests.antt") + text_of("sig_policy", "specs", "Identities.antt")
     compared = re.findall(r'(?:single_refusal|check_failed) \(codes "(\w+)"\)', asked)
