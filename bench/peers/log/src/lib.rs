@@ -20,8 +20,17 @@ pub const LIMIT: usize = 1 << 24;
 /// The reply to a request.
 #[derive(Debug, PartialEq, Eq)]
 pub enum Reply {
-    Logged { index: i64, size: u64 },
+    Logged { index: i64, size: u64, list: Option<List> },
     Refused(Link),
+}
+
+/// What the log's entries are, where the request has them.
+#[derive(Debug, PartialEq, Eq)]
+pub enum List {
+    /// They are those of the tree, and the entry is at this index.
+    Entry(i64),
+    /// They have another size or root.
+    Other,
 }
 
 /// The links of the chain, in the order in which they are tested.
@@ -48,7 +57,14 @@ impl Reply {
 impl fmt::Display for Reply {
     fn fmt(&self, f: &mut fmt::Formatter<'_>) -> fmt::Result {
         match self {
-            Reply::Logged { index, size } => write!(f, "logged {index} {size}"),
+            Reply::Logged { index, size, list } => {
+                write!(f, "logged {index} {size}")?;
+                match list {
+                    Some(List::Entry(index)) => write!(f, "\nentry {index}"),
+                    Some(List::Other) => f.write_str("\nother list"),
+                    None => Ok(()),
+                }
+            }
             Reply::Refused(link) => write!(f, "refused {link}"),
         }
     }
@@ -68,14 +84,11 @@ impl fmt::Display for Link {
 
 /// The reply to the text of a request.
 pub fn reply(text: &[u8]) -> Reply {
-    match logged(text) {
-        Ok((index, size)) => Reply::Logged { index, size },
-        Err(link) => Reply::Refused(link),
-    }
+    logged(text).unwrap_or_else(Reply::Refused)
 }
 
-/// The index and the size of a request of which every link holds, or the first link that fails.
-fn logged(text: &[u8]) -> Result<(i64, u64), Link> {
+/// The reply to a request of which every link holds, or the first link that fails.
+fn logged(text: &[u8]) -> Result<Reply, Link> {
     if text.len() > LIMIT {
         return Err(Link::Request);
     }
@@ -90,7 +103,18 @@ fn logged(text: &[u8]) -> Result<(i64, u64), Link> {
     if !is_included(&request) {
         return Err(Link::Inclusion);
     }
-    Ok((request.log_index, request.tree_size))
+    let list = request.entries.as_deref().map(|entries| list_of(&request, entries));
+    Ok(Reply::Logged { index: request.log_index, size: request.tree_size, list })
+}
+
+/// What the log's entries are, for a request of which every link holds.
+fn list_of(request: &Request, entries: &[Vec<u8>]) -> List {
+    if entries.len() as u64 != request.tree_size || merkle::tree(entries) != request.root_hash {
+        return List::Other;
+    }
+    // Another entry at the index would be one of two byte strings of equal SHA-256, which sigverify writes.
+    assert_eq!(entries[request.log_index as usize], request.entry);
+    List::Entry(request.log_index)
 }
 
 /// Whether one of the checkpoint's signatures over its note is accepted under the log's scheme and key.

@@ -14,6 +14,18 @@ fn node(left: &Hash, right: &Hash) -> Hash {
     Sha256::new().chain_update([1]).chain_update(left).chain_update(right).finalize().into()
 }
 
+/// The root of a list of entries.
+pub fn tree(entries: &[Vec<u8>]) -> Hash {
+    match entries {
+        [] => Sha256::digest([]).into(),
+        [entry] => leaf(entry),
+        _ => {
+            let (left, right) = entries.split_at(entries.len().next_power_of_two() / 2);
+            node(&tree(left), &tree(right))
+        }
+    }
+}
+
 /// The root to which an audit path leads from a leaf, where the path has the length of one (RFC 9162 section 2.1.3.2).
 pub fn root(leaf: Hash, index: u64, size: u64, path: &[Hash]) -> Option<Hash> {
     if index >= size {

@@ -17,6 +17,8 @@ pub struct Request<'a> {
     pub scheme: Scheme,
     pub key: Vec<u8>,
     pub accepted: Vec<Row>,
+    /// All entries of the log, where they are given.
+    pub entries: Option<Vec<Vec<u8>>>,
 }
 
 /// A signature that is taken for genuine.
@@ -141,6 +143,7 @@ impl<'de> Visitor<'de> for RequestVisitor {
         let mut scheme: Option<Text> = None;
         let mut key: Option<Base64> = None;
         let mut accepted: Option<Vec<Row>> = None;
+        let mut entries: Option<Vec<Base64>> = None;
         while let Some(member) = members.next_key()? {
             match member {
                 RequestMember::Entry => entry = members.next_value()?,
@@ -152,8 +155,7 @@ impl<'de> Visitor<'de> for RequestVisitor {
                 RequestMember::Scheme => scheme = members.next_value()?,
                 RequestMember::Key => key = members.next_value()?,
                 RequestMember::Accepted => accepted = members.next_value()?,
-                // Reserved: only null.
-                RequestMember::Entries => members.next_value::<()>()?,
+                RequestMember::Entries => entries = members.next_value()?,
                 RequestMember::Other => {
                     members.next_value::<Ignored>()?;
                 }
@@ -169,6 +171,7 @@ impl<'de> Visitor<'de> for RequestVisitor {
             scheme: named(required(scheme, "scheme")?, Scheme::named)?,
             key: required(key, "key")?.0,
             accepted: accepted.unwrap_or_default(),
+            entries: entries.map(|list| list.into_iter().map(|entry| entry.0).collect()),
         })
     }
 }

@@ -11,7 +11,7 @@ fn examples() -> PathBuf {
 /// The reply and the status to a text, on one line.
 fn replied(text: &[u8]) -> String {
     let reply = reply(text);
-    format!("{reply} status {}", reply.status())
+    format!("{reply} status {}", reply.status()).replace('\n', " ")
 }
 
 #[test]
