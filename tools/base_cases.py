@@ -7,7 +7,9 @@ tree and its roots are those that Certificate Transparency's implementations pub
     tools/base_cases.py
 """
 import base64
+import functools
 import hashlib
+import os
 
 import consistency_cases
 import key_rows
@@ -81,9 +83,23 @@ def base():
         case(f"equal {one} {other}", f"ok {same} {same}")
     tables()
     maps()
+    ranks()
     note("errors TYPE: the Debug text of each variant; Display is the name, or follows in brackets")
     for name, texts in ERRORS:
         case(f"errors {name}", " ".join(["ok"] + texts))
+
+
+def ranks():
+    note("rank TEXT FROM: the seven bytes of a text from there as a number; an absent one is less than 0")
+    texts = [b"", b"\0", b"\0\0", b"a", b"\xff", b"abcdefg", b"abcdefgh", b"\xff" * 9]
+    for text in texts:
+        for start in dict.fromkeys((0, 1, 7, len(text), len(text) + 1)):
+            digits = [byte + 1 for byte in text[start:start + 7]]
+            case(f"rank {hexed(text)} {start}", f"ok {functools.reduce(lambda rank, digit: rank * 257 + digit, [*digits, *[0] * (7 - len(digits))])}")
+    note("shared TEXTS: with how many bytes all begin alike")
+    for texts in [[], [b"abc"], [b"", b""], [b"abc", b"abc"], [b"abc", b""], [b"abc", b"ab"], [b"ab", b"abc"], [b"abd", b"abc", b"b"],
+                  [b"abcd", b"abce", b"abxd"], [b"\0", b""], [b"x" * 300 + b"a", b"x" * 300 + b"b", b"x" * 299]]:
+        case(f"shared {','.join(map(bytes.hex, texts)) or '-'}", f"ok {len(os.path.commonprefix(texts)) if texts else 0}")
 
 
 def tables():

@@ -14,6 +14,7 @@ mod errors;
 mod keys;
 mod maps;
 mod merkle;
+mod ranks;
 mod tables;
 mod walks;
 
@@ -38,7 +39,7 @@ impl Cases for BaseCases {
     }
 }
 
-/// The calls on maps and lists.
+/// The calls on maps, lists and ranks.
 fn of_lists(call: &str, arguments: &mut Arguments<'_>, answer: &mut Answer) {
     match call {
         "key_map" => maps::key_map(arguments, answer),

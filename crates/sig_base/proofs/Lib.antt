@@ -21,3 +21,4 @@ pub mod IndexedElements
 pub mod Utf8Texts
 pub mod Base64Texts
 pub mod Digits
+pub mod Ranks

@@ -14,3 +14,4 @@ pub mod ByText
 pub mod Rules
 pub mod Collision
 pub mod ByteLists
+pub mod Rank

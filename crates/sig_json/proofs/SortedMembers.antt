@@ -28,7 +28,8 @@ use Rattle.sig_json.proofs.NamedTrees.{keys-put}
 use Rattle.sig_json.proofs.OrderedMembers.{compare, same_from_tie, turned}
 use Rattle.sig_json.specs.Gathered.{Entry, put_each, gathered}
 use Rattle.sig_json.specs.Members.{members_list}
-use Rattle.sig_json.specs.Sorting.{rank, ranked, entry_names, key_order, comes_first, entries_at, IsOrderOf}
+use Rattle.sig_base.specs.Rank.{rank_from}
+use Rattle.sig_json.specs.Sorting.{ranked, entry_names, key_order, comes_first, entries_at, IsOrderOf}
 use Rattle.sig_json.specs.View.{view, members_view}
 use Rattle.sig_json.specs.declared.sort.Key.{Key}
 use Rattle.sig_json.specs.declared.tree.Tree.{Null}
@@ -151,7 +152,7 @@ abbrev name_at : Entry → List Entry → Key → List ℕ
 name_at d es key = cow_str_bytes (get_or es key.index d).0
 
 abbrev IsKey : ℕ → List Entry → Key → Type 0
-IsKey from es key = (key.index < length es) × ((d : Entry) → key.rank ≡ rank (drop from (name_at d es key)))
+IsKey from es key = (key.index < length es) × ((d : Entry) → key.rank ≡ rank_from from (name_at d es key))
 
 same_last : (o p : Ordering) → (p ≡ Equal → o ≡ Equal) → is_eq (ordering_then o p) ≡ is_eq p
 same_last Less Less f = refl
@@ -187,7 +188,7 @@ unfolding key_order
 tied from d es one other is are =
     tie_from _ _ ((key_order_total (entry_names es)).antisymm other one)
     ∙ ap (λ (o : Ordering). is_eq (ordering_then o by_names))
-    (ap (λ (r : ℕ). nat_cmp r other.rank) (is.1 d) ∙ ap (λ (r : ℕ). nat_cmp (rank (drop from (name_at d es one))) r) (are.1 d))
+    (ap (λ (r : ℕ). nat_cmp r other.rank) (is.1 d) ∙ ap (λ (r : ℕ). nat_cmp (rank_from from (name_at d es one)) r) (are.1 d))
     ∙ ap (λ (p : Ordering). is_eq (ordering_then ranks p))
     (ap (λ (name : Option (List ℕ)). option_cmp compare name (slice_get (entry_names es) other.index))
     (name_found from d es one is)
@@ -199,12 +200,12 @@ tied from d es one other is are =
           option_cmp compare (slice_get (entry_names es) one.index) (slice_get (entry_names es) other.index)
 
       ranks : Ordering
-      ranks = nat_cmp (rank (drop from (name_at d es one))) (rank (drop from (name_at d es other)))
+      ranks = nat_cmp (rank_from from (name_at d es one)) (rank_from from (name_at d es other))
 
       alike : compare (name_at d es one) (name_at d es other) ≡ Equal → ranks ≡ Equal
       alike tie =
-          ap (λ (name : List ℕ). nat_cmp (rank (drop from name)) (rank (drop from (name_at d es other)))) (same_from_tie _ _ tie)
-          ∙ tied_itself nat_cmp_total (rank (drop from (name_at d es other)))
+          ap (λ (name : List ℕ). nat_cmp (rank_from from name) (rank_from from (name_at d es other))) (same_from_tie _ _ tie)
+          ∙ tied_itself nat_cmp_total (rank_from from (name_at d es other))
 
 -- ---- members by their keys
 
@@ -311,7 +312,7 @@ are_ranked from es done (e ∷ rest) n is at = (
   (
     omega (arith, ap length is, length-append done (e ∷ rest), at),
     λ d. let found : get_or es n d ≡ e = rw (is, at) (here done e rest d) in
-        ap (λ (e : Entry). rank (drop from (cow_str_bytes e.0))) (sym found),
+        ap (λ (e : Entry). rank_from from (cow_str_bytes e.0)) (sym found),
   ),
   are_ranked from es (done ++ e ∷ []) rest (suc n) (is ∙ sym (append_assoc done (e ∷ []) rest))
       (omega (arith, length-append done (e ∷ []), at)),

@@ -1,34 +1,19 @@
 -- For private clauses: the members of an object in the order of their names, by a sort of their indices.
-use Rattle.std.specs.Prelude.{◌≡◌, ◌<◌, ◌+◌, ◌*◌, ℕ, suc, List, [], ◌∷◌, drop, length, map, slice_get}
-use Rattle.std.specs.Prelude.{slice_index_or, Bool, Option, None, Some}
+use Rattle.std.specs.Prelude.{◌≡◌, ◌<◌, ℕ, suc, List, [], ◌∷◌, length, map, slice_get, slice_index_or, Bool}
 use Rattle.std.specs.Cow.{cow_str_bytes}
 use Rattle.std.specs.Cmp.Lexicographic.{slice_cmp}
 use Rattle.std.specs.Option.{option_cmp}
 use Rattle.std.specs.Ordering.{nat_cmp, is_lt, on, then_cmp}
 use Rattle.std.specs.declared.cmp.Ordering.{Ordering}
+use Rattle.sig_base.specs.Rank.{rank_from}
 use Rattle.sig_json.specs.Gathered.{Entry, gathered}
 use Rattle.sig_json.specs.declared.sort.Key.{Key}
-
--- a byte as a digit, of which an absent one is the least
-abbrev pub digit_of : Option ℕ → ℕ
-digit_of None = 0
-digit_of (Some byte) = byte + 1
-
-abbrev pub rank_digit : List ℕ → ℕ → ℕ
-rank_digit name index = digit_of (slice_get name index)
-
--- the first seven bytes as a number
-unfoldable pub rank : List ℕ → ℕ
-rank name =
-    let three = (rank_digit name 0 * 257 + rank_digit name 1) * 257 + rank_digit name 2 in
-    let five = (three * 257 + rank_digit name 3) * 257 + rank_digit name 4 in
-    (five * 257 + rank_digit name 5) * 257 + rank_digit name 6
 
 -- the key of each name, whose rank is of its bytes from one on, and whose indices count on from a first one
 abbrev pub ranked : (from index : ℕ) → List (List ℕ) → List Key
 ranked from index [] = []
 ranked from index (name ∷ names) =
-    (record { rank = rank (drop from name); index = index }) ∷ ranked from (suc index) names
+    (record { rank = rank_from from name; index = index }) ∷ ranked from (suc index) names
 
 abbrev pub entry_names : List Entry → List (List ℕ)
 entry_names = map (λ e. cow_str_bytes e.0)

@@ -60,7 +60,6 @@ mod object;
 mod order;
 mod owned;
 mod part;
-mod rank;
 mod read;
 mod record;
 mod room;

@@ -10,10 +10,9 @@ ghost use Rattle.sig_json.specs.Sorting.{ranked, entry_names, key_order, comes_f
 ghost use Rattle.sig_json.specs.View.{members_view};
 
 use crate::order::put_from_last;
-use crate::rank::{rank_from, shared};
 use crate::tree::{Entry, Tree};
 use crate::words::borrow;
-use sig_base::OutOfMemory;
+use sig_base::{OutOfMemory, rank_from, shared};
 use std::alloc::Global;
 use std::cmp::Ordering;
 use std::mem;
@@ -52,18 +51,18 @@ fn order_of(alloc: Global, members: &[Entry<'_>]) -> Result<Vec<Key>, OutOfMemor
     Ok(keys)
 }
 
-fn names_of<'a>(alloc: Global, members: &'a [Entry<'_>]) -> Result<Vec<&'a str>, OutOfMemory>
+fn names_of<'a>(alloc: Global, members: &'a [Entry<'_>]) -> Result<Vec<&'a [u8]>, OutOfMemory>
     ensures { IfOk result (λ names. names_of names.items ≡ entry_names members.now) }
 {
     let mut names = Vec::with_capacity(alloc, members.len())?;
     'members: for member in members {
-        names.push(member.0.as_str())?;
+        names.push(member.0.as_str().as_bytes())?;
     }
     Ok(names)
 }
 
 /// The key of each name, in the order of the names, with the rank of its bytes from this one on.
-fn keys_of(alloc: Global, names: &[&str], from: usize) -> Result<Vec<Key>, OutOfMemory>
+fn keys_of(alloc: Global, names: &[&[u8]], from: usize) -> Result<Vec<Key>, OutOfMemory>
     ensures { IfOk result (λ keys. keys.items ≡ ranked from 0 (names_of names.now)) }
 {
     let mut keys = Vec::with_capacity(alloc, names.len())?;
@@ -79,7 +78,7 @@ fn keys_of(alloc: Global, names: &[&str], from: usize) -> Result<Vec<Key>, OutOf
 
 /// Puts keys in the order of their names; keys of the same name stay in their order. The ranks alone leave little to
 /// the names, even if many are the same.
-fn put_in_order(names: &[&str], keys: &mut Vec<Key>) -> Result<(), OutOfMemory>
+fn put_in_order(names: &[&[u8]], keys: &mut Vec<Key>) -> Result<(), OutOfMemory>
     ensures moved { OnOk result (IsPermutation keys.old.items keys.new.items) }
     ensures stable { OnOk result (IsStableBy (comes_first (names_of names.now)) keys.old.items keys.new.items) }
 {
@@ -100,7 +99,7 @@ fn put_in_rank_order(keys: &mut Vec<Key>) -> Result<(), OutOfMemory>
 /// Compares two keys: by rank, and the names are read only where these are equal.
 #[tactic(auto, using(sig_base::proofs::Orderings::steps), unfolding(crate::specs::Sorting::key_order))]
 #[inline(always)]
-fn order_between(names: &[&str], one: &Key, other: &Key) -> Ordering
+fn order_between(names: &[&[u8]], one: &Key, other: &Key) -> Ordering
     ensures { result ≡ key_order (names_of names.now) one.now other.now }
 {
     match one.rank.cmp(&other.rank) {
@@ -110,7 +109,7 @@ fn order_between(names: &[&str], one: &Key, other: &Key) -> Ordering
 }
 
 /// Compares the names at two indices. An index that no name has comes first.
-fn names_between(names: &[&str], one: usize, other: usize) -> Ordering
+fn names_between(names: &[&[u8]], one: usize, other: usize) -> Ordering
     ensures { result ≡ option_cmp (slice_cmp nat_cmp)
         (slice_get (names_of names.now) one) (slice_get (names_of names.now) other) }
 {

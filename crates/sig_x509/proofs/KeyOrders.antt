@@ -12,31 +12,33 @@ use Rattle.std.specs.declared.cmp.Ordering.{Ordering}
 use Rattle.std.specs.Ordering.{ordering_index}
 use Rattle.std.specs.declared.cmp.Ordering.TheVariants.{Equal, Greater, Less}
 use Rattle.std.proofs.lemmas.Bool.{and_from, and_parts, cases_lt, leb-true, leb-false}
-use Rattle.std.proofs.lemmas.Cmp.{then_total, on_total, nat_list_cmp_total, tied_itself}
+use Rattle.std.proofs.lemmas.Cmp.{then_total, on_total, nat_cmp_total, nat_list_cmp_total, tied_itself}
 use Rattle.std.proofs.lemmas.List.Elements.{All-contains}
 use Rattle.std.proofs.lemmas.List.Sorted.{Contains-permutation, IsPermutation-sym, searchable_from_sorted}
 use Rattle.std.proofs.lemmas.Map.Lookups.{CmpEqualImpliesEq, exact_bytes}
 use Rattle.std.proofs.lemmas.List.{take_more}
 use Rattle.std.proofs.lemmas.Option.{get_or_from_slice_get, slice_get-get_or, slice_get_within}
 use Rattle.std.proofs.lemmas.Slice.Eq.{bytes_eq-Decides}
-use Rattle.sig_base.proofs.Orderings.{both_tie, unequal_decides, equal_passes}
+use Rattle.sig_base.specs.Rank.{rank_from}
+use Rattle.sig_base.proofs.Orderings.{both_tie}
 use Rattle.sig_certificate.specs.Certificate.{Cert}
 use Rattle.sig_x509.specs.AskedAnchors.{IsFirstOfItsKey}
 use Rattle.sig_x509.specs.KeyOrder.{AreGreaterFrom, AreLessBefore, IsKeyOrder, IsPart, Signer, compared_at, has_key}
-use Rattle.sig_x509.specs.KeyOrder.{has_some_key, lesser, signer_at, signer_of, signer_order}
+use Rattle.sig_x509.specs.KeyOrder.{has_some_key, key_order, lesser, signer_at, signer_of, signer_order}
 use Rattle.sig_x509.proofs.Elements.{at_contained, at_position, before_position, contains_at, no_position, position_at}
 use Rattle.sig_x509.proofs.Elements.{position_nowhere}
 
-pub ruleset steps = (unequal_decides, equal_passes)
+pub signer_order_total : (from : ℕ) → IsTotalOrder (signer_order from)
+unfolding signer_order key_order
+signer_order_total from =
+    then_total (on_total (λ s. rank_from from s.1) nat_cmp_total)
+    (then_total (on_total (λ s. s.1) nat_list_cmp_total) (on_total (λ s. s.0) nat_list_cmp_total))
 
-pub signer_order_total : IsTotalOrder signer_order
-unfolding signer_order
-signer_order_total = then_total (on_total (λ s. s.1) nat_list_cmp_total) (on_total (λ s. s.0) nat_list_cmp_total)
-
-same_signer : CmpEqualImpliesEq signer_order
-unfolding signer_order
-same_signer a b e =
-    let both = both_tie _ _ e in
+same_signer : (from : ℕ) → CmpEqualImpliesEq (signer_order from)
+unfolding signer_order key_order
+same_signer from a b e =
+    let ranks = both_tie _ _ e in
+    let both = both_tie _ _ ranks.1 in
     ap (λ (s : List ℕ). (s, a.1)) (exact_bytes a.0 b.0 both.1) ∙ ap (λ (k : List ℕ). (b.0, k)) (exact_bytes a.1 b.1 both.0)
 
 -- ---- the first of a subject and an SPKI
@@ -70,14 +72,14 @@ greater_above Greater Less le e = absurd (omega arith)
 greater_above Greater Equal le e = absurd (omega arith)
 greater_above Greater Greater le e = refl
 
-module _ (anchors : List Cert) (order : List ℕ) (is : IsKeyOrder anchors order) (subject spki : List ℕ) where
+module _ (from : ℕ) (anchors : List Cert) (order : List ℕ) (is : IsKeyOrder from anchors order) (subject spki : List ℕ) where
   -- what the search asks of each index
   abbrev pub sought : ℕ → Ordering
-  sought = compared_at anchors (subject, spki)
+  sought = compared_at from anchors (subject, spki)
 
   rises : IsNonDecreasingBy (λ index. ordering_index (sought index)) order
   rises =
-      searchable_from_sorted (options_total signer_order_total) (λ index. signer_at anchors index) order
+      searchable_from_sorted (options_total (signer_order_total from)) (λ index. signer_at anchors index) order
       (Some (subject, spki)) is.ascends
 
   at_place : (k index : ℕ) → slice_get order k ≡ Some index → (k < length order) × (get_or order k 0 ≡ index)
@@ -86,7 +88,7 @@ module _ (anchors : List Cert) (order : List ℕ) (is : IsKeyOrder anchors order
 
   -- those before one that comes before the signer do too
   less_before : (k : ℕ) → k < length order → sought (get_or order k 0) ≡ Less
-      → AreLessBefore anchors order (subject, spki) (k + 1)
+      → AreLessBefore from anchors order (subject, spki) (k + 1)
   less_before k within less = (
     omega (arith, within),
     λ j other lt got. let here = at_place j other got in
@@ -97,7 +99,7 @@ module _ (anchors : List Cert) (order : List ℕ) (is : IsKeyOrder anchors order
 
   -- those after one that comes after the signer do too
   greater_from : (k : ℕ) → k < length order → sought (get_or order k 0) ≡ Greater
-      → AreGreaterFrom anchors order (subject, spki) k
+      → AreGreaterFrom from anchors order (subject, spki) k
   greater_from k within greater j other le got =
       let here = at_place j other got in
       greater_above (sought (get_or order k 0)) (sought other)
@@ -105,7 +107,7 @@ module _ (anchors : List Cert) (order : List ℕ) (is : IsKeyOrder anchors order
       (rises k j 0 le here.0)) greater
 
   -- the signer may have any place
-  pub all_places : IsPart anchors order (subject, spki) 0 (length order)
+  pub all_places : IsPart from anchors order (subject, spki) 0 (length order)
   all_places =
       record {
         before = (omega arith, λ k index lt got. absurd (omega (arith, lt)));
@@ -115,9 +117,9 @@ module _ (anchors : List Cert) (order : List ℕ) (is : IsKeyOrder anchors order
       }
 
   -- of a part, what is left after a comparison
-  pub part_after : (start end k : ℕ) → IsPart anchors order (subject, spki) start end → start ≤ k → k < end
-      → sought (get_or order k 0) ≡ Less → IsPart anchors order (subject, spki) (k + 1) end
-  part_after start end k part from below less =
+  pub part_after : (start end k : ℕ) → IsPart from anchors order (subject, spki) start end → start ≤ k → k < end
+      → sought (get_or order k 0) ≡ Less → IsPart from anchors order (subject, spki) (k + 1) end
+  part_after start end k part low below less =
       record {
         before = less_before k (omega (arith, below, part.within)) less;
         after = part.after;
@@ -125,27 +127,27 @@ module _ (anchors : List Cert) (order : List ℕ) (is : IsKeyOrder anchors order
         within = part.within;
       }
 
-  pub part_before : (start end k : ℕ) → IsPart anchors order (subject, spki) start end → start ≤ k → k < end
-      → sought (get_or order k 0) ≡ Greater → IsPart anchors order (subject, spki) start k
-  part_before start end k part from below greater =
+  pub part_before : (start end k : ℕ) → IsPart from anchors order (subject, spki) start end → start ≤ k → k < end
+      → sought (get_or order k 0) ≡ Greater → IsPart from anchors order (subject, spki) start k
+  part_before start end k part low below greater =
       record {
         before = part.before;
         after = greater_from k (omega (arith, below, part.within)) greater;
-        ordered = from;
+        ordered = low;
         within = omega (arith, below, part.within);
       }
 
-  tied : (o : Option Cert) → option_cmp signer_order (option_map signer_of o) (Some (subject, spki)) ≡ Equal
+  tied : (o : Option Cert) → option_cmp (signer_order from) (option_map signer_of o) (Some (subject, spki)) ≡ Equal
       → (x : Cert) × (o ≡ Some x) × (signer_of x ≡ (subject, spki))
   tied None e = absurd cc
-  tied (Some x) e = (x, refl, same_signer (signer_of x) (subject, spki) e)
+  tied (Some x) e = (x, refl, same_signer from (signer_of x) (subject, spki) e)
 
   ties : (index : ℕ) (x : Cert) → slice_get anchors index ≡ Some x → has_key subject spki x ≡ true
       → sought index ≡ Equal
   ties index x there has =
-      ap (λ (o : Option Cert). option_cmp signer_order (option_map signer_of o) (Some (subject, spki))) there
-      ∙ ap (λ (s : Signer). signer_order s (subject, spki)) (has_to subject spki x has)
-      ∙ tied_itself signer_order_total (subject, spki)
+      ap (λ (o : Option Cert). option_cmp (signer_order from) (option_map signer_of o) (Some (subject, spki))) there
+      ∙ ap (λ (s : Signer). signer_order from s (subject, spki)) (has_to subject spki x has)
+      ∙ tied_itself (signer_order_total from) (subject, spki)
 
   pub first_of : (index : ℕ) → Contains order index → IsFirstOfItsKey anchors index
   first_of index has =
@@ -175,7 +177,7 @@ module _ (anchors : List Cert) (order : List ℕ) (is : IsKeyOrder anchors order
           }))
 
   -- where no place is left
-  pub none_left : (start end : ℕ) → IsPart anchors order (subject, spki) start end → end ≤ start
+  pub none_left : (start end : ℕ) → IsPart from anchors order (subject, spki) start end → end ≤ start
       → None ≡ position (has_key subject spki) anchors
   none_left start end part empty =
       sym (position_nowhere (has_key subject spki) anchors (λ k x there. by k x there (has_key subject spki x) refl))

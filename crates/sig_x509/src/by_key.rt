@@ -2,9 +2,9 @@
 //! anchor.
 
 ghost use Rattle.std.specs.Prelude.{◌≡◌, ◌<◌, ◌≤◌, position};
-ghost use Rattle.sig_x509.specs.KeyOrder.{HoldsKeys, has_key, has_some_key, lesser};
+ghost use Rattle.sig_x509.specs.KeyOrder.{HoldsKeys, IsWanted, has_key, has_some_key, lesser};
 
-use crate::key_order::KeyOrder;
+use crate::key_order::{KeyOrder, Wanted};
 use sig_base::KeyList;
 use sig_certificate::Certificate;
 use std::cmp::Ordering;
@@ -28,7 +28,8 @@ pub(crate) fn first_of_keys(
     let mut near = 0;
     'keys: for index in 0..keys.len() {
         if let Some(spki) = keys.get(index) {
-            let found = first_of_key(anchors, order, near, subject, spki);
+            let wanted = order.wanted(subject, spki);
+            let found = first_of_key(anchors, order, near, &wanted);
             first = lesser(first, found.first);
             near = found.place;
         }
@@ -45,32 +46,32 @@ struct Found {
     place: usize,
 }
 
-/// Returns the index of the first trust anchor with this subject and SPKI, and the place near which the next key may
+/// Returns the index of the first trust anchor that is wanted, and the place near which the next key may
 /// be. Looks at `near`, then further away in steps that double, until the signer is between two places, and then in the
 /// middle of these.
 fn first_of_key(
     anchors: &[Certificate],
     order: &KeyOrder,
     near: usize,
-    subject: &[u8],
-    spki: &[u8],
+    wanted: &Wanted<'_>,
 ) -> Found
-    requires { HoldsKeys anchors.now order.now }
-    ensures { result.first ≡ position (has_key subject.now spki.now) anchors.now }
+    requires holds { HoldsKeys anchors.now order.now }
+    requires ranked { IsWanted order.now.from wanted.now }
+    ensures { result.first ≡ position (has_key wanted.now.subject.now wanted.now.spki.now) anchors.now }
 {
     let (mut low, mut high) = (0, order.len());
-    let mut wanted = near;
+    let mut next = near;
     let mut step = FIRST_STEP;
     'places: while low < high {
-        let place = place_in(low, high, wanted);
-        match order.compare(place, anchors, subject, spki) {
+        let place = place_in(low, high, next);
+        match order.compare(place, anchors, wanted) {
             Ordering::Less => {
                 low = place + 1;
-                wanted = place.saturating_add(step);
+                next = place.saturating_add(step);
             }
             Ordering::Greater => {
                 high = place;
-                wanted = place.saturating_sub(step);
+                next = place.saturating_sub(step);
             }
             Ordering::Equal => {
                 let first = Some(order.index_at(place));
@@ -85,14 +86,14 @@ fn first_of_key(
     }
 }
 
-/// Returns the wanted place if it is from `low` to before `high`, else the place in the middle.
-fn place_in(low: usize, high: usize, wanted: usize) -> usize
+/// Returns the next place if it is from `low` to before `high`, else the place in the middle.
+fn place_in(low: usize, high: usize, next: usize) -> usize
     requires { low < high }
     ensures from { low ≤ result }
     ensures before { result < high }
 {
-    if low <= wanted && wanted < high {
-        wanted
+    if low <= next && next < high {
+        next
     } else {
         low + (high - low) / 2
     }

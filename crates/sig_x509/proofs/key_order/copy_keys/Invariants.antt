@@ -6,4 +6,4 @@ use Rattle.sig_x509.proofs.key_order.copy_keys.Given as goal
 abbrev pub invariant-order : goal.invariant-order
 invariant-order l =
     (map (λ place. place.index) l.places.items ≡ take l.index-index l.order)
-    × AreCopies l.anchors l.buffer.items l.places.items
+    × AreCopies l.from l.anchors l.buffer.items l.places.items

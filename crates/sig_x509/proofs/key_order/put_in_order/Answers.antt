@@ -12,6 +12,7 @@ use Rattle.sig_x509.proofs.key_order.put_in_order.Goals as goal
 pub returns-clause-ascends : goal.returns-clause-ascends
 returns-clause-ascends c =
     c.sort_unstable_by.ensures.sorted
-    (λ one other. is_lt (option_cmp signer_order (signer_at c.args.anchors.now one) (signer_at c.args.anchors.now other)))
-    (ranks_by (options_total signer_order_total) (λ index. signer_at c.args.anchors.now index))
+    (λ one other. is_lt (option_cmp (signer_order c.args.from) (signer_at c.args.anchors.now one)
+    (signer_at c.args.anchors.now other)))
+    (ranks_by (options_total (signer_order_total c.args.from)) (λ index. signer_at c.args.anchors.now index))
     (always_returns_same _ _ _ (λ a r f' k. search rules))
