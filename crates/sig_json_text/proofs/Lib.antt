@@ -3,5 +3,6 @@ pub mod CanonicalTexts
 pub mod Units
 pub mod MemberOrder
 pub mod KeptOrder
+pub mod AscendingMembers
 pub mod MemberTexts
 pub mod LargeIntegers

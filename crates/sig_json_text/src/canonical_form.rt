@@ -16,12 +16,12 @@ ghost use Rattle.sig_json.specs.Tree.{tree};
 ghost use Rattle.sig_json_text.specs.Writes.{WritesPart, comma_before, by_units, member_text, pair_of, texts_in_turn};
 
 use crate::error::CanonicalError;
+use crate::member_order::sorted_members;
 use crate::named_member::Member;
 use serde_json::{Number, Value};
 use sig_base::{OutOfMemory, Text};
 use sig_json::{Entry, Json, Tree};
 use std::alloc::Global;
-use std::collections::BTreeMap;
 
 /// The greatest integer that a number of 64 bits (IEEE 754) keeps apart from its neighbours: 2^53 - 1.
 const GREATEST_INTEGER: u128 = 9_007_199_254_740_991;
@@ -149,38 +149,6 @@ fn write_object(
 {
     let sorted = sorted_members(alloc, members)?;
     write_members(alloc, &sorted, out)
-}
-
-/// The members in the ascending order of the UTF-16 code units of their names.
-#[tactic(auto, using(crate::proofs::MemberTexts::sorts))]
-fn sorted_members<'a, 't>(
-    alloc: Global,
-    members: &'a Vec<Entry<'t>>,
-) -> Result<Vec<Member<'a, 't>>, OutOfMemory>
-    requires { HasNamedValues (members_view members.now.items) }
-    ensures { IfOk result (λ sorted.
-        map pair_of sorted.items ≡ values_of (by_units (members_view members.now.items) [])) }
-{
-    let mut sorted = BTreeMap::new(alloc);
-    'members: for member in members {
-        let name = member.0.as_str();
-        let units = utf16_units(alloc, name)?;
-        let value = &member.1;
-        sorted.insert(units, Member { name, value })?;
-    }
-    Ok(sorted.into_values().collect(alloc)?)
-}
-
-/// The UTF-16 code units of a text.
-fn utf16_units(alloc: Global, text: &str) -> Result<Vec<u16>, OutOfMemory>
-    ensures { IfOk result (λ units. units.items ≡ utf16_units text.now) }
-{
-    let mut units = Vec::new(alloc);
-    'units: for c in text.chars() {
-        let mut buffer = [0; 2];
-        units.extend_from_slice(c.encode_utf16(&mut buffer))?;
-    }
-    Ok(units)
 }
 
 /// Writes members, sorted already, in braces.

@@ -15,6 +15,7 @@ mod canonical_form;
 mod compact_form;
 mod error;
 pub mod laws;
+mod member_order;
 mod named_member;
 
 pub use canonical_form::{canonical, quoted};

@@ -4,7 +4,7 @@ use Rattle.std.proofs.lemmas.Iterator.Consumers.{YieldsList-turn, YieldsList-end
 use Rattle.std.specs.Str.{chars}
 use Rattle.sig_json_text.proofs.CanonicalTexts.{units_more, units_all}
 use Rattle.sig_json_text.specs.Canonical.{utf16_units}
-use Rattle.sig_json_text.proofs.canonical_form.utf16_units.Goals as goal
+use Rattle.sig_json_text.proofs.member_order.utf16_units.Goals as goal
 
 pub units-preserved : goal.units-preserved
 units-preserved c =

@@ -4,7 +4,7 @@ use Rattle.sig_json.proofs.Lists.{members_from}
 use Rattle.sig_json_text.proofs.MemberTexts.{entries_of, members-inserted}
 use Rattle.sig_json_text.specs.Canonical.{utf16_units}
 use Rattle.sig_json_text.specs.Writes.{by_units}
-use Rattle.sig_json_text.proofs.canonical_form.sorted_members.Goals as goal
+use Rattle.sig_json_text.proofs.member_order.by_insertion.Goals as goal
 
 -- a member goes in at its place by the units of its name
 pub members-preserved : goal.members-preserved
