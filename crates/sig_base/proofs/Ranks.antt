@@ -1,4 +1,4 @@
--- With how many bytes two texts begin alike: one more where the next bytes are the same, and no more where they are not.
+-- With how many bytes two texts begin alike: one more where the next bytes are the same, else no more.
 use Rattle.std.proofs.Common.{◌≡◌, ℕ, zero, suc, pred, ◌<◌, Bool, true, false, cond, List, [], ◌∷◌, refl, ap, arith}
 use Rattle.std.proofs.Common.{slice_get, nat_eq}
 use Rattle.sig_base.specs.Rank.{alike, is_same}

@@ -1,6 +1,6 @@
--- *Rank*: a number that tells most texts apart without a look at them, of the bytes after those with which they all begin.
-use Rattle.std.specs.Prelude.{ℕ, zero, suc, Bool, false, ◌+◌, ◌*◌, List, [], ◌∷◌, Option, None, Some, drop, length, nat_eq, slice_get}
-use Rattle.std.specs.Prelude.{if◌then◌else◌}
+-- *Rank*: a number that tells most texts apart without a look at them, of the bytes after those with which all begin.
+use Rattle.std.specs.Prelude.{ℕ, zero, suc, Bool, false, ◌+◌, ◌*◌, List, [], ◌∷◌, Option, None, Some, drop}
+use Rattle.std.specs.Prelude.{length, nat_eq, slice_get, if◌then◌else◌}
 
 -- a byte as a digit, of which an absent one is the least
 abbrev pub digit_of : Option ℕ → ℕ

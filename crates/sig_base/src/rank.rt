@@ -5,7 +5,8 @@ ghost use Rattle.sig_base.specs.Rank.{rank_digit, rank, rank_from, is_same, alik
 /// One more than the bytes that there are, since an absent one counts too.
 const RADIX: u64 = 257;
 
-/// Returns with how many bytes all these texts begin alike, 0 of no texts. Ranks of the bytes after these tell the texts apart.
+/// Returns with how many bytes all these texts begin alike, 0 of no texts. Ranks of the bytes after these tell the texts
+/// apart.
 pub fn shared(texts: &[&[u8]]) -> usize
     ensures { result ≡ shared (map (λ text. text.now) texts.now) }
 {
@@ -45,8 +46,8 @@ fn is_same_at(one: &[u8], other: &[u8], index: usize) -> bool
     }
 }
 
-/// Returns the rank of a text from this byte on: the seven bytes from there as a number. Of two texts that begin alike up to there and
-/// differ in these seven, the lower one has the lower rank.
+/// Returns the rank of a text from this byte on: the seven bytes from there as a number. Of two texts that begin alike up
+/// to there and differ in these seven, the lower one has the lower rank.
 #[inline(always)]
 pub fn rank_from(text: &[u8], from: usize) -> u64
     ensures { result ≡ rank_from from text.now }
@@ -63,8 +64,7 @@ pub fn rank_from(text: &[u8], from: usize) -> u64
 fn rank(text: &[u8]) -> u64
     ensures { result ≡ rank text.now }
 {
-    let three = (rank_digit(text, 0) * RADIX + rank_digit(text, 1)) * RADIX
-        + rank_digit(text, 2);
+    let three = (rank_digit(text, 0) * RADIX + rank_digit(text, 1)) * RADIX + rank_digit(text, 2);
     let five = (three * RADIX + rank_digit(text, 3)) * RADIX + rank_digit(text, 4);
     (five * RADIX + rank_digit(text, 5)) * RADIX + rank_digit(text, 6)
 }

@@ -8,12 +8,12 @@ ghost use Rattle.serde_json.specs.Find.{as_integer};
 ghost use Rattle.serde_json.specs.View.{number_view};
 ghost use Rattle.sig_json.specs.View.{view, items_view, members_view};
 ghost use Rattle.sig_json_text.specs.Canonical.{canon, canon_integer, canon_string, canon_items, canon_members};
-ghost use Rattle.sig_json_text.specs.Canonical.{canonical_of, in_braces, in_brackets, utf16_units};
+ghost use Rattle.sig_json_text.specs.Canonical.{canonical_of, in_braces, in_brackets};
 ghost use Rattle.sig_json_text.specs.Large.{has_large};
 ghost use Rattle.sig_json.specs.NamedTree.{IsNamedTree, AreNamed, NamesAscend, HasNamedValues};
 ghost use Rattle.sig_json_text.specs.Order.{KeepsOrder};
 ghost use Rattle.sig_json.specs.Tree.{tree};
-ghost use Rattle.sig_json_text.specs.Writes.{WritesPart, comma_before, by_units, member_text, pair_of, texts_in_turn};
+ghost use Rattle.sig_json_text.specs.Writes.{WritesPart, comma_before, member_text, pair_of, texts_in_turn};
 
 use crate::error::CanonicalError;
 use crate::member_order::sorted_members;

@@ -2,7 +2,7 @@
 ghost use Rattle.std.specs.Cmp.Lexicographic.{slice_cmp};
 ghost use Rattle.std.specs.Map.{values_of};
 ghost use Rattle.std.specs.Ordering.{is_lt, nat_cmp};
-ghost use Rattle.std.specs.Prelude.{◌≡◌, ◌==◌, ◌||◌, IfOk, IfSome, [], length, map};
+ghost use Rattle.std.specs.Prelude.{◌≡◌, ◌==◌, ◌||◌, IfOk, IfSome, [], map};
 ghost use Rattle.sig_json.specs.NamedTree.{HasNamedValues};
 ghost use Rattle.sig_json.specs.View.{members_view};
 ghost use Rattle.sig_json_text.specs.Canonical.{utf16_units};

@@ -72,7 +72,8 @@ greater_above Greater Less le e = absurd (omega arith)
 greater_above Greater Equal le e = absurd (omega arith)
 greater_above Greater Greater le e = refl
 
-module _ (from : ℕ) (anchors : List Cert) (order : List ℕ) (is : IsKeyOrder from anchors order) (subject spki : List ℕ) where
+module _ (from : ℕ) (anchors : List Cert) (order : List ℕ) (is : IsKeyOrder from anchors order)
+    (subject spki : List ℕ) where
   -- what the search asks of each index
   abbrev pub sought : ℕ → Ordering
   sought = compared_at from anchors (subject, spki)

@@ -251,12 +251,7 @@ fn compare_place(
 /// subject.
 #[tactic(auto, using(sig_base::proofs::Orderings::steps), unfolding(crate::specs::KeyOrder::key_order))]
 #[inline(always)]
-fn compare_copy(
-    anchors: &[Certificate],
-    index: usize,
-    copy: &[u8],
-    wanted: &Wanted<'_>,
-) -> Ordering
+fn compare_copy(anchors: &[Certificate], index: usize, copy: &[u8], wanted: &Wanted<'_>) -> Ordering
     ensures { result ≡ key_order (subject_in (slice_get anchors.now index), copy.now) (wanted_signer wanted.now) }
 {
     match copy.cmp(wanted.spki) {

@@ -9,12 +9,14 @@ pub places-preserved : goal.places-preserved
 places-preserved c = elim c.match-compare.branch [
   | in-Less w ↦
       rw (w.low-is, w.high-is)
-      (part_after c.args.order.now.from c.args.anchors.now (indices_of c.args.order.now) c.requires.holds.order c.args.wanted.now.subject.now
+      (part_after c.args.order.now.from c.args.anchors.now (indices_of c.args.order.now)
+      c.requires.holds.order c.args.wanted.now.subject.now
       c.args.wanted.now.spki.now c.places.low c.places.high c.place_in-place.result c.places.invariant
       c.place_in-place.ensures.from c.place_in-place.ensures.before (sym c.compare.ensures ∙ w.in-Less.is))
   | in-Greater w ↦
       rw (w.low-is, w.high-is)
-      (part_before c.args.order.now.from c.args.anchors.now (indices_of c.args.order.now) c.requires.holds.order c.args.wanted.now.subject.now
+      (part_before c.args.order.now.from c.args.anchors.now (indices_of c.args.order.now)
+      c.requires.holds.order c.args.wanted.now.subject.now
       c.args.wanted.now.spki.now c.places.low c.places.high c.place_in-place.result c.places.invariant
       c.place_in-place.ensures.from c.place_in-place.ensures.before (sym c.compare.ensures ∙ w.in-Greater.is))
 ]
@@ -22,12 +24,14 @@ places-preserved c = elim c.match-compare.branch [
 pub returns-in-Equal : goal.returns-in-Equal
 returns-in-Equal c =
     ap (λ (index : ℕ). Some index) c.index_at.ensures
-    ∙ found_first c.args.order.now.from c.args.anchors.now (indices_of c.args.order.now) c.requires.holds.order c.args.wanted.now.subject.now
+    ∙ found_first c.args.order.now.from c.args.anchors.now (indices_of c.args.order.now)
+      c.requires.holds.order c.args.wanted.now.subject.now
     c.args.wanted.now.spki.now c.place_in-place.result
     (omega (arith, c.place_in-place.ensures.before, c.places.invariant.within))
     (sym c.compare.ensures ∙ c.in-Equal.is)
 
 pub returns : goal.returns
 returns c =
-    none_left c.args.order.now.from c.args.anchors.now (indices_of c.args.order.now) c.requires.holds.order c.args.wanted.now.subject.now c.args.wanted.now.spki.now
+    none_left c.args.order.now.from c.args.anchors.now (indices_of c.args.order.now)
+      c.requires.holds.order c.args.wanted.now.subject.now c.args.wanted.now.spki.now
     c.places.low c.places.high c.places.invariant c.places-test.false
