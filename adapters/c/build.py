@@ -53,7 +53,7 @@ def prove(home, on):
     libraries = below(on, CRATE)
     if not all(is_current(rlib(name).parent, on, name) for name in libraries):
         print("adapters/c/build.py: proving what changed; a first build takes some 40 minutes", file=sys.stderr)
-        ran([TOP / "tools/libraries", CRATE, TOP / "tools/rt_once", "lib"])
+        ran([TOP / "tools/libraries", CRATE, "lib"])
         return
     of_kit = [name for name in dict.fromkeys(["std", *on[CRATE]]) if name not in on]
     words = [home / "bin/rattle", "build", "--crate-name", CRATE, "src/lib.rt", "--crate-type", "staticlib"]
