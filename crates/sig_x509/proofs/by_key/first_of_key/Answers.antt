@@ -25,7 +25,7 @@ pub returns-in-Equal : goal.returns-in-Equal
 returns-in-Equal c =
     ap (λ (index : ℕ). Some index) c.index_at.ensures
     ∙ found_first c.args.order.now.from c.args.anchors.now (indices_of c.args.order.now)
-      c.requires.holds.order c.args.wanted.now.subject.now
+    c.requires.holds.order c.args.wanted.now.subject.now
     c.args.wanted.now.spki.now c.place_in-place.result
     (omega (arith, c.place_in-place.ensures.before, c.places.invariant.within))
     (sym c.compare.ensures ∙ c.in-Equal.is)
@@ -33,5 +33,5 @@ returns-in-Equal c =
 pub returns : goal.returns
 returns c =
     none_left c.args.order.now.from c.args.anchors.now (indices_of c.args.order.now)
-      c.requires.holds.order c.args.wanted.now.subject.now c.args.wanted.now.spki.now
+    c.requires.holds.order c.args.wanted.now.subject.now c.args.wanted.now.spki.now
     c.places.low c.places.high c.places.invariant c.places-test.false
