@@ -44,6 +44,8 @@ fn of_lists(call: &str, arguments: &mut Arguments<'_>, answer: &mut Answer) {
     match call {
         "key_map" => maps::key_map(arguments, answer),
         "text_map" => maps::text_map(arguments, answer),
+        "rank" => ranks::rank(arguments, answer),
+        "shared" => ranks::shared_start(arguments, answer),
         "entries" => maps::entries(arguments, answer),
         "numbers" => maps::numbers(arguments, answer),
         "hashes" => maps::hashes(arguments, answer),
